@@ -1,0 +1,5 @@
+pub mod BitLaws
+pub mod PatternLaws
+pub mod ItemLaws
+pub mod TextLaws
+pub mod Worked

@@ -1,0 +1,4 @@
+pub mod Bits
+pub mod Pattern
+pub mod PatternText
+pub mod Item

@@ -1,0 +1,52 @@
+-- The paths from the set to each leaf, and the labels of leaves.
+use Rattle.std.specs.Prelude.{ℕ, List, [], ◌∷◌, ◌++◌, Option, Some, None, if◌then◌else◌, nat_lt, bytes_eq, count_by, decimal, flat_map, slice_index_or}
+use Rattle.serde_json.specs.Data.{Data}
+use Rattle.spec_bits.specs.Item.{Item}
+use Rattle.spec_instructions.specs.Kind.{Kind, Set, Group, Leaf, Alias, Instance}
+use Rattle.spec_instructions.specs.Tree.{Own, Node, node, Nodes, no_nodes, more, document_set}
+
+-- a path ends at a leaf; what hangs below a set or a group is followed on
+abbrev pub paths_at : Kind → List Own → List (List Own) → List (List Own)
+paths_at Leaf path below = path ∷ []
+paths_at Set path below = below
+paths_at Group path below = below
+paths_at Alias path below = []
+paths_at Instance path below = []
+
+abbrev mutual
+  -- the paths from a node to its leaves, in document order, behind the nodes above it
+  pub paths_from : List Own → Node → List (List Own)
+  paths_from above (node own kids) = paths_at own.kind (above ++ own ∷ []) (paths_among (above ++ own ∷ []) kids)
+
+  pub paths_among : List Own → Nodes → List (List Own)
+  paths_among above no_nodes = []
+  paths_among above (more n ns) = paths_from above n ++ paths_among above ns
+
+abbrev pub paths_of_set : Option Node → List (List Own)
+paths_of_set None = []
+paths_of_set (Some set) = paths_from [] set
+
+-- the paths of a document; leaf number k is the k-th, from 0
+abbrev pub document_paths : List ℕ → Data → List (List Own)
+document_paths isa d = paths_of_set (document_set isa d)
+
+-- the name of a path's last node
+abbrev pub path_name : List Own → List ℕ
+path_name [] = []
+path_name (own ∷ []) = own.name
+path_name (own ∷ next ∷ rest) = path_name (next ∷ rest)
+
+-- all items along a path, from the root on
+abbrev pub path_items : List Own → List Item
+path_items path = flat_map (λ own. own.items) path
+
+-- the number of leaves with that name
+abbrev pub namesakes : List ℕ → List (List Own) → ℕ
+namesakes name paths = count_by (λ path. bytes_eq name (path_name path)) paths
+
+-- a leaf's name alone, or with `#` and its number where another leaf has the name
+abbrev pub labelled : ℕ → List ℕ → ℕ → List ℕ
+labelled sakes name k = if nat_lt 1 sakes then name ++ 35 ∷ decimal k else name
+
+abbrev pub label : List (List Own) → ℕ → List ℕ
+label paths k = labelled (namesakes (path_name (slice_index_or paths k [])) paths) (path_name (slice_index_or paths k [])) k

@@ -1,0 +1,4 @@
+//! What an Instructions document of the profile means: its names, encodings, walk, tree, and the paths to its leaves.
+//! Definitions alone, in `specs/`, and laws about them, in `proofs/`. The profile is this project's own, after Arm's
+//! machine-readable architecture (AARCHMRS); `docs/PROFILE.md` states it.
+#![tactic(auto)]

@@ -1,0 +1,39 @@
+-- Worked values: lines over two small leaves.
+use Rattle.std.specs.Prelude.{◌≡◌, ℕ, List, [], ◌∷◌, ◌++◌, None, map, false, codes, refl}
+use Rattle.std.specs.Fmt.{digits}
+use Rattle.spec_bits.specs.Pattern.{Digit, Zero, One}
+use Rattle.spec_bits.specs.Item.{Item}
+use Rattle.spec_instructions.specs.Kind.{Leaf}
+use Rattle.spec_instructions.specs.Tree.{Own}
+use Rattle.spec_lines.specs.Line.{line}
+use Rattle.spec_lines.specs.Listing.{stream_lines}
+
+-- bits without a name, none of them should-be
+abbrev bits : ℕ → List Digit → Item
+bits start digits = record { name = None; start = start; digits = digits; marks = map (λ _. false) digits }
+
+abbrev leaf : List ℕ → List Item → List Own
+leaf name items = record { kind = Leaf; name = name; items = items } ∷ []
+
+-- `ADD_64_addsub_imm` by its bits 31 to 23, and two leaves of one name that fix bit 0
+abbrev paths : List (List Own)
+paths = leaf (codes "ADD_64_addsub_imm") (bits 26 (One ∷ Zero ∷ Zero ∷ []) ∷ bits 31 (One ∷ []) ∷ bits 23 (Zero ∷ One ∷ Zero ∷ []) ∷ [])
+    ∷ leaf (codes "DUP") (bits 28 (Zero ∷ Zero ∷ Zero ∷ Zero ∷ []) ∷ [])
+    ∷ leaf (codes "DUP") (bits 27 (Zero ∷ Zero ∷ Zero ∷ Zero ∷ Zero ∷ []) ∷ [])
+    ∷ []
+
+one_leaf : line paths 0 0x91000420 ≡ codes "00000000 91000420 one ADD_64_addsub_imm\n"
+unfolding digits
+one_leaf = refl
+
+namesakes_differ : line paths 4 0x0800_0000 ≡ codes "00000004 08000000 one DUP#1\n"
+unfolding digits
+namesakes_differ = refl
+
+two_leaves : line paths 0x1_0000_0000 0 ≡ codes "100000000 00000000 many DUP#1 yes DUP#2 yes\n"
+unfolding digits
+two_leaves = refl
+
+ragged : stream_lines paths (0x20 ∷ 0x04 ∷ 0x00 ∷ 0x91 ∷ 0xc0 ∷ 0x03 ∷ 0x5f ∷ []) ≡ codes "00000000 91000420 one ADD_64_addsub_imm\n" ++ codes "00000004 rest c0035f\n"
+unfolding digits
+ragged = refl

@@ -1,0 +1,28 @@
+-- What the statuses say together, where the shelf tells its documents and the source its bytes.
+use Rattle.std.specs.Prelude.{◌≡◌, ◌⊎◌, ℕ, List, Some, ⊤}
+use Rattle.std.specs.Io.KnownBytes.{Appends}
+use Rattle.spec_io.specs.Faults.{Rose}
+use Rattle.spec_io.specs.Documents.{Document as Named}
+use Rattle.spec_run.specs.Outcome.{End, Done, ReadFault, WriteFault, NoMemory, outcome}
+use Rattle.spec_run.specs.Scene.{Scene}
+use Rattle.spec_run.specs.Answers.{Means}
+
+-- a status that is neither a fault of the outside nor want of memory
+abbrev pub IsAnswer : End → Type 0
+IsAnswer (ReadFault which) = ⊥
+IsAnswer WriteFault = ⊥
+IsAnswer NoMemory = ⊥
+IsAnswer end = ⊤
+
+-- the status and the bytes on `out` are the outcome's
+abbrev pub GivesOutcome : Scene → List Named → List ℕ → End → Type 0
+GivesOutcome s docs bytes end = ((outcome s.words docs bytes).end ≡ end) × Appends s.out.taken s.out_after.taken (outcome s.words docs bytes).out
+
+-- every answer is the outcome's
+abbrev pub AnswersAreExact : Type 0
+AnswersAreExact = (s : Scene) (docs : List Named) (bytes : List ℕ) (end : End) → s.documents ≡ Some docs → s.input.left ≡ Some bytes → Means end s → IsAnswer end → GivesOutcome s docs bytes end
+
+-- where no count of shelf, source or sink rose, the run ends as the outcome does, or memory ran out
+abbrev pub RunsComplete : Type 0
+RunsComplete = (s : Scene) (docs : List Named) (bytes : List ℕ) (end : End) → s.documents ≡ Some docs → s.input.left ≡ Some bytes → Means end s
+    → ¬ Rose s.shelf s.shelf_after → ¬ Rose s.input.faults s.input_after.faults → ¬ Rose s.out.faults s.out_after.faults → ((outcome s.words docs bytes).end ≡ end) ⊎ (end ≡ NoMemory)

@@ -1,0 +1,6 @@
+pub mod Command
+pub mod Outcome
+pub mod Scene
+pub mod Streamed
+pub mod Answers
+pub mod Exact

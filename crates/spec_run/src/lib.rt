@@ -1,0 +1,17 @@
+//! What a run of the program means: its command, its result, and what each status says of the outside.
+//! Definitions alone, in `specs/`, and laws about them, in `proofs/`.
+#![tactic(auto)]
+
+ghost use Rattle.spec_run.specs.Exact.{AnswersAreExact, RunsComplete};
+
+/// A law on what statuses say: over a shelf and a source that tell their contents, every status that is neither a
+/// fault of the outside nor want of memory is that of the outcome, and exactly the outcome's bytes went out.
+pub fn answers_are_exact()
+    ensures { AnswersAreExact }
+{}
+
+/// A law on what statuses say: over a shelf and a source that tell their contents, where no count of faults of shelf,
+/// source or sink rose, the run ends as the outcome does, or memory ran out.
+pub fn runs_complete()
+    ensures { RunsComplete }
+{}
