@@ -1,0 +1,7 @@
+pub mod DigitLaws
+pub mod ValueLaws
+pub mod HoldsLaws
+pub mod JoinLaws
+pub mod PushLaws
+pub mod SliceLaws
+pub mod ReadLaws
