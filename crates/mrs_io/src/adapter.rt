@@ -1,0 +1,151 @@
+//! A reader and a writer of std as a source and a sink, whose errors are counted.
+ghost use Rattle.std.specs.Prelude.{◌≡◌, ◌<◌, length, is_ok, IfOk, if◌then◌else◌};
+ghost use Rattle.std.specs.Io.{ReadsAtMost, WritesAtMost};
+ghost use Rattle.std.specs.Io.KnownBytes.{ReadConsumes, WriteAppends};
+ghost use Rattle.spec_io.specs.Faults.{next_count};
+ghost use Rattle.mrs_io.specs.Causes.{HasCause};
+
+use crate::fault_count::FaultCount;
+use crate::{Failed, Sink, Source};
+use std::io::{Read, Write};
+
+/// A reader as a source. Each error of the reader is a fault.
+#[derive(Drop)]
+pub struct ReaderSource<R> {
+    pub reader: R,
+    pub faults: FaultCount,
+}
+
+/// A writer as a sink. Each error of the writer is a fault, and so is a write that takes nothing of a piece.
+#[derive(Drop)]
+pub struct WriterSink<W> {
+    pub writer: W,
+    pub faults: FaultCount,
+}
+
+impl<R> ReaderSource<R> {
+    pub fn new(reader: R) -> Self
+        ensures reader { result.reader ≡ reader }
+        ensures faults { result.faults ≡ 0 }
+    {
+        ReaderSource {
+            reader,
+            faults: FaultCount::none(),
+        }
+    }
+}
+
+impl<W> WriterSink<W> {
+    pub fn new(writer: W) -> Self
+        ensures writer { result.writer ≡ writer }
+        ensures faults { result.faults ≡ 0 }
+    {
+        WriterSink {
+            writer,
+            faults: FaultCount::none(),
+        }
+    }
+}
+
+impl<R: Read> Source for ReaderSource<R> {
+    ghost left = { λ s. R.remaining s.reader };
+
+    ghost faults = { λ s. s.faults };
+
+    fn read(&mut self, buf: &mut [u8]) -> Result<usize, Failed>
+        ensures bound { ReadsAtMost result buf.new }
+        ensures bytes { ReadConsumes (R.remaining self.old.reader) (R.remaining self.new.reader) result buf.new }
+        ensures cause { HasCause self.old.faults self.new.faults result }
+        ensures count { self.new.faults ≡ (if is_ok result then self.old.faults else next_count self.old.faults) }
+    {
+        match self.reader.read(buf) {
+            Ok(count) => Ok(count),
+            Err(_) => {
+                self.faults.raise();
+                Err(Failed)
+            }
+        }
+    }
+}
+
+impl<W: Write> Sink for WriterSink<W> {
+    ghost taken = { λ s. W.contents s.writer };
+
+    ghost faults = { λ s. s.faults };
+
+    fn write(&mut self, bytes: &[u8]) -> Result<usize, Failed>
+        ensures bound { WritesAtMost result bytes.now }
+        ensures some { 0 < length bytes.now → IfOk result (λ count. 0 < count) }
+        ensures bytes { WriteAppends (W.contents self.old.writer) (W.contents self.new.writer) result bytes.now }
+        ensures cause { HasCause self.old.faults self.new.faults result }
+        ensures count { self.new.faults ≡ (if is_ok result then self.old.faults else next_count self.old.faults) }
+    {
+        match self.writer.write(bytes) {
+            Ok(0) if !bytes.is_empty() => {
+                self.faults.raise();
+                Err(Failed)
+            }
+            Ok(count) => Ok(count),
+            Err(_) => {
+                self.faults.raise();
+                Err(Failed)
+            }
+        }
+    }
+}
+
+#[cfg(test)]
+mod tests {
+    use super::*;
+    use crate::FetchFault;
+    use crate::read_within::read_within;
+    use std::io;
+    use std::test::Fail;
+
+    /// A reader of bytes that breaks behind them, and a writer that takes none.
+    #[derive(Drop)]
+    struct Broken<'a>(&'a [u8]);
+
+    impl Read for Broken<'_> {
+        fn read(&mut self, buf: &mut [u8]) -> io::Result<usize> {
+            if self.0.is_empty() {
+                return Err(io::Error::other("broken"));
+            }
+            self.0.read(buf)
+        }
+    }
+
+    impl Write for Broken<'_> {
+        fn write(&mut self, _buf: &[u8]) -> io::Result<usize> {
+            Ok(0)
+        }
+
+        fn flush(&mut self) -> io::Result<()> {
+            Ok(())
+        }
+    }
+
+    #[test]
+    fn errors_in_mid_stream_are_faults(rt: HostRuntime) -> Result<(), Fail> {
+        let mut source = ReaderSource::new(Broken(b"abc"));
+        let mut buf = [0u8; 2];
+        for answer in [Ok(2), Ok(1), Err(Failed), Err(Failed)] {
+            assert_eq!(rt; source.read(&mut buf), answer);
+        }
+        assert_eq!(rt; source.faults.count, 2);
+
+        let mut sink = WriterSink::new(Broken(b""));
+        assert_eq!(rt; sink.write(b"a"), Err(Failed));
+        assert_eq!(rt; sink.write(b""), Ok(0));
+        assert_eq!(rt; sink.faults.count, 1);
+
+        for (limit, answer) in [(3, FetchFault::Failed), (2, FetchFault::TooLong)] {
+            let mut source = ReaderSource::new(Broken(b"abc"));
+            match read_within(rt.alloc(), &mut source, limit) {
+                Ok(_) => return Err(Failed.into()),
+                Err(fault) => assert_eq!(rt; fault, answer),
+            }
+        }
+        Ok(())
+    }
+}

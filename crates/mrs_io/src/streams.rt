@@ -1,0 +1,157 @@
+//! The standard streams of the process as a source and two sinks. They tell no content.
+ghost use Rattle.std.specs.Prelude.{◌≡◌, ◌<◌, None, length, is_ok, IfOk, if◌then◌else◌};
+ghost use Rattle.std.specs.Io.{ReadsAtMost, WritesAtMost};
+ghost use Rattle.std.specs.Io.KnownBytes.{ReadConsumes, WriteAppends};
+ghost use Rattle.spec_io.specs.Faults.{next_count};
+ghost use Rattle.mrs_io.specs.Causes.{HasCause};
+
+use crate::adapter::{ReaderSource, WriterSink};
+use crate::{Failed, Sink, Source};
+use std::io::{Stderr, Stdin, Stdout};
+use std::marker::Model;
+
+/// Standard input. Its count rises at each error of the system.
+#[derive(Drop)]
+pub struct StdinSource {
+    stdin: ReaderSource<Stdin>,
+}
+
+/// Standard output, with no buffer. Its count rises at each error of the system, and where a write takes nothing.
+#[derive(Drop)]
+pub struct StdoutSink {
+    stdout: WriterSink<Stdout>,
+}
+
+/// Standard error, with no buffer. Its count rises at each error of the system, and where a write takes nothing.
+#[derive(Drop)]
+pub struct StderrSink {
+    stderr: WriterSink<Stderr>,
+}
+
+impl Model for StdinSource {
+    ghost use Rattle.std.specs.Prelude.{ℕ};
+
+    ghost Value = { ℕ };
+
+    ghost view = { λ s. s.stdin.faults };
+}
+
+impl Model for StdoutSink {
+    ghost use Rattle.std.specs.Prelude.{ℕ};
+
+    ghost Value = { ℕ };
+
+    ghost view = { λ s. s.stdout.faults };
+}
+
+impl Model for StderrSink {
+    ghost use Rattle.std.specs.Prelude.{ℕ};
+
+    ghost Value = { ℕ };
+
+    ghost view = { λ s. s.stderr.faults };
+}
+
+impl StdinSource {
+    /// Standard input, with no fault yet. It takes no memory.
+    pub fn new(rt: &HostRuntime) -> Self
+        ensures { result ≡ 0 }
+    {
+        StdinSource {
+            stdin: ReaderSource::new(rt.stdin()),
+        }
+    }
+}
+
+impl StdoutSink {
+    /// Standard output, with no fault yet. It takes no memory.
+    pub fn new(rt: &HostRuntime) -> Self
+        ensures { result ≡ 0 }
+    {
+        StdoutSink {
+            stdout: WriterSink::new(rt.stdout()),
+        }
+    }
+}
+
+impl StderrSink {
+    /// Standard error, with no fault yet. It takes no memory.
+    pub fn new(rt: &HostRuntime) -> Self
+        ensures { result ≡ 0 }
+    {
+        StderrSink {
+            stderr: WriterSink::new(rt.stderr()),
+        }
+    }
+}
+
+impl Source for StdinSource {
+    ghost left = { λ _. None };
+
+    ghost faults = { λ count. count };
+
+    fn read(&mut self, buf: &mut [u8]) -> Result<usize, Failed>
+        ensures bound { ReadsAtMost result buf.new }
+        ensures bytes { ReadConsumes None None result buf.new }
+        ensures cause { HasCause self.old self.new result }
+        ensures count { self.new ≡ (if is_ok result then self.old else next_count self.old) }
+    {
+        self.stdin.read(buf)
+    }
+}
+
+impl Sink for StdoutSink {
+    ghost taken = { λ _. None };
+
+    ghost faults = { λ count. count };
+
+    fn write(&mut self, bytes: &[u8]) -> Result<usize, Failed>
+        ensures bound { WritesAtMost result bytes.now }
+        ensures some { 0 < length bytes.now → IfOk result (λ count. 0 < count) }
+        ensures bytes { WriteAppends None None result bytes.now }
+        ensures cause { HasCause self.old self.new result }
+        ensures count { self.new ≡ (if is_ok result then self.old else next_count self.old) }
+    {
+        self.stdout.write(bytes)
+    }
+}
+
+impl Sink for StderrSink {
+    ghost taken = { λ _. None };
+
+    ghost faults = { λ count. count };
+
+    fn write(&mut self, bytes: &[u8]) -> Result<usize, Failed>
+        ensures bound { WritesAtMost result bytes.now }
+        ensures some { 0 < length bytes.now → IfOk result (λ count. 0 < count) }
+        ensures bytes { WriteAppends None None result bytes.now }
+        ensures cause { HasCause self.old self.new result }
+        ensures count { self.new ≡ (if is_ok result then self.old else next_count self.old) }
+    {
+        self.stderr.write(bytes)
+    }
+}
+
+#[cfg(test)]
+mod tests {
+    use super::*;
+    use crate::{fill, write_whole};
+
+    #[test]
+    fn streams_are_read_and_written(rt: HostRuntime) {
+        let mut out = StdoutSink::new(&rt);
+        let mut err = StderrSink::new(&rt);
+        assert_eq!(rt; write_whole(&mut out, b"to standard output\n"), Ok(()));
+        assert_eq!(rt; write_whole(&mut err, b"to standard error\n"), Ok(()));
+        assert_eq!(rt; out.write(b""), Ok(0));
+        let mut input = StdinSource::new(&rt);
+        let mut buf = [0u8; 8];
+        assert_eq!(rt; fill(&mut input, &mut buf), Ok(0));
+        let counts = [
+            out.stdout.faults.count,
+            err.stderr.faults.count,
+            input.stdin.faults.count,
+        ];
+        assert_eq!(rt; counts, [0, 0, 0]);
+    }
+}
