@@ -1,0 +1,9 @@
+pub mod PointerLaws
+pub mod MarkLaws
+pub mod WalkLaws
+pub mod MemberLaws
+pub mod ObjectLaws
+pub mod ItemLoop
+pub mod NodeLaws
+pub mod PathLaws
+pub mod SetLaws

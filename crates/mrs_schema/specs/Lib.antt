@@ -1,0 +1,9 @@
+pub mod Flattened
+pub mod Pointers
+pub mod Faults
+pub mod Gives
+pub mod Members
+pub mod Kinds
+pub mod ShouldBe
+pub mod Items
+pub mod Leaves
