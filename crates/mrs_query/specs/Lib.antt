@@ -1,0 +1,5 @@
+pub mod End
+pub mod Words
+pub mod Opened
+pub mod Pieces
+pub mod Texts

@@ -1,0 +1,57 @@
+//! How a run ends.
+ghost use Rattle.std.specs.Prelude.{◌≡◌};
+ghost use Rattle.spec_run.specs.Outcome.{exit_number};
+ghost use Rattle.mrs_query.specs.End.{end_of};
+
+/// What a status names: the Instructions document, or the stream.
+#[derive(Clone, Copy, Debug, PartialEq, Eq)]
+pub enum Which {
+    Insns,
+    Input,
+}
+
+/// Why a document is refused: it has no JSON reading, or it is outside what this program reads.
+#[derive(Clone, Copy, Debug, PartialEq, Eq)]
+pub enum DocFault {
+    Json,
+    Outside,
+}
+
+/// How a run ends.
+#[derive(Clone, Copy, Debug, PartialEq, Eq)]
+pub enum Status {
+    /// The command's output went out whole.
+    Done,
+    /// The stream ended inside a word: `rest` bytes, 1 to 3, are left over.
+    Ragged { rest: u8 },
+    /// The words are refused; `place` is that of the first bad word, from 0.
+    Usage { place: u64 },
+    /// A document is refused.
+    Document { which: Which, fault: DocFault },
+    /// The shelf or the source failed, or the shelf holds no such document.
+    ReadFault { which: Which },
+    /// The sink for lines failed.
+    WriteFault,
+    /// A document or the stream is longer than its limit.
+    Limit { which: Which },
+    /// Memory ran out.
+    NoMemory,
+}
+
+impl Status {
+    /// The number with which the program ends.
+    pub fn exit_number(self) -> u8
+        ensures { result ≡ exit_number (end_of self) }
+    {
+        match self {
+            Status::Done => 0,
+            Status::Ragged { rest: _ } => 1,
+            Status::Usage { place: _ } => 2,
+            Status::Document { which: _, fault: _ } => 3,
+            Status::ReadFault { which: _ } => 6,
+            Status::WriteFault => 7,
+            Status::Limit { which: _ } => 8,
+            Status::NoMemory => 9,
+        }
+    }
+}
