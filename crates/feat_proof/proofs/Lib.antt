@@ -1,0 +1,9 @@
+mod Sets
+mod Numbering
+mod Hints
+mod Digits
+mod Signs
+mod LineEnds
+mod Header
+mod Stopped
+mod OneAnswer

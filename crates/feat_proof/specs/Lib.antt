@@ -1,0 +1,4 @@
+-- What ties the code of this crate to the definitions of `spec_refutation`.
+pub mod Members
+pub mod Scans
+pub mod Answers

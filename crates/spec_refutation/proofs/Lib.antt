@@ -1,0 +1,8 @@
+mod Worked
+pub mod Sound
+pub mod Outcome
+pub mod Hinted
+pub mod Numbers
+pub mod Runs
+pub mod Lines
+pub mod Places

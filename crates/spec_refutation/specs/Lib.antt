@@ -1,0 +1,8 @@
+-- What a refutation is, and how it is written: literals, clauses and assignments; the rule by which a
+-- step follows from its hints; when a log refutes; the text of a log; and where the reading of a text
+-- stops.
+pub mod Literals
+pub mod Derivation
+pub mod Refutation
+pub mod Text
+pub mod Reading
