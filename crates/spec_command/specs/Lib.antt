@@ -1,0 +1,3 @@
+pub mod Verb
+pub mod Setting
+pub mod Command
