@@ -1,0 +1,12 @@
+pub mod PathLaws
+pub mod PreorderLaws
+pub mod EndLaws
+pub mod NodeLaws
+pub mod PutLaws
+pub mod FormedLaws
+pub mod ItemLaws
+pub mod OpenLaws
+pub mod LastLaws
+pub mod FillLaws
+pub mod ClosedLaws
+pub mod MarkLaws

@@ -1,0 +1,8 @@
+pub mod Marks
+pub mod Flat
+pub mod Views
+pub mod Paths
+pub mod Nodes
+pub mod Limits
+pub mod Formed
+pub mod Inside

@@ -1,0 +1,41 @@
+-- Lists of nodes, numbered from 0: their parents and items, and what is put last.
+use Rattle.std.specs.Prelude.{ℕ, ◌-◌, Bool, false, ◌==◌, List, [], ◌∷◌, ◌++◌, length, map, flat_map, count_by, slice_index_or, Option, Some, None, is_some, option_map, unwrap_or}
+use Rattle.std.specs.List.{list_any}
+use Rattle.mrs_arena.specs.declared.kind.Kind.{Kind}
+use Rattle.mrs_arena.specs.Flat.{FlatItem, FlatNode}
+use Rattle.mrs_arena.specs.Paths.{ancestors}
+
+abbrev pub parents_of : List FlatNode → List (Option ℕ)
+parents_of nodes = map (λ node. node.parent) nodes
+
+-- the items of a node, and those of the last one
+abbrev pub items_at : List FlatNode → ℕ → List FlatItem
+items_at nodes n = slice_index_or (map (λ node. node.items) nodes) n []
+
+abbrev pub last_items : List FlatNode → List FlatItem
+last_items nodes = items_at nodes (length nodes - 1)
+
+-- the items of the nodes from node n up to the root, and how many of them are named
+abbrev pub path_items : List FlatNode → ℕ → List FlatItem
+path_items nodes n = flat_map (items_at nodes) (ancestors (parents_of nodes) n)
+
+abbrev pub named_on : List FlatNode → ℕ → ℕ
+named_on nodes n = count_by (λ it. is_some it.name) (path_items nodes n)
+
+-- a node without items
+abbrev pub new_node : Kind → ℕ → Option ℕ → FlatNode
+new_node kind name parent = record { kind = kind; name = name; parent = parent; items = [] }
+
+-- the nodes with one more item at the last of them
+abbrev pub with_item : FlatItem → List FlatNode → List FlatNode
+with_item it [] = []
+with_item it (node ∷ []) = record node { items = node.items ++ it ∷ [] } ∷ []
+with_item it (node ∷ next ∷ rest) = node ∷ with_item it (next ∷ rest)
+
+-- one of the items has the name, if there is one
+abbrev pub has_name : ℕ → FlatItem → Bool
+has_name name it = unwrap_or (option_map (λ other. other == name) it.name) false
+
+abbrev pub is_taken : List FlatItem → Option ℕ → Bool
+is_taken items None = false
+is_taken items (Some name) = list_any (has_name name) items

@@ -1,0 +1,27 @@
+//! The tree of instructions as one array of nodes: a builder that puts them in document order, and the arena that gives them back.
+#![tactic(auto)]
+
+mod arena;
+mod builder;
+mod ends;
+mod fault;
+mod item;
+mod kind;
+mod limits;
+mod node;
+mod node_id;
+mod node_ref;
+mod path;
+mod shared;
+mod taken;
+#[cfg(test)]
+mod tests;
+
+pub use arena::Arena;
+pub use builder::ArenaBuilder;
+pub use fault::BuildFault;
+pub use item::Item;
+pub use kind::Kind;
+pub use node_id::NodeId;
+pub use node_ref::NodeRef;
+pub use path::Path;

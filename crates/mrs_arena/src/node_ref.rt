@@ -1,0 +1,69 @@
+//! One node of an arena.
+
+use crate::item::Item;
+use crate::kind::Kind;
+use crate::node::Node;
+use crate::node_id::NodeId;
+use mrs_names::NameId;
+use std::marker::Model;
+
+/// One node of an arena: what was put, and where its subtree ends.
+#[derive(Drop)]
+pub struct NodeRef<'a> {
+    node: &'a Node,
+    items: &'a [Item],
+}
+
+impl<'a> Model for NodeRef<'a> {
+    ghost use Rattle.mrs_arena.specs.Flat.{ArenaNode};
+    ghost use Rattle.mrs_arena.specs.Inside.{arena_node};
+
+    ghost Value = { ArenaNode };
+
+    ghost view = { λ n. arena_node n.items.now n.node.now };
+}
+
+impl<'a> NodeRef<'a> {
+    ghost use Rattle.std.specs.Prelude.{◌≡◌, map, option_map};
+    ghost use Rattle.mrs_arena.specs.Views.{flat_item};
+    ghost use Rattle.mrs_arena.specs.Inside.{arena_node};
+
+    pub(crate) fn new(node: &'a Node, items: &'a [Item]) -> NodeRef<'a>
+        ensures { result ≡ arena_node items.now node.now }
+    {
+        NodeRef { node, items }
+    }
+
+    pub fn kind(&self) -> Kind
+        ensures { result ≡ self.now.own.kind }
+    {
+        self.node.kind
+    }
+
+    pub fn name(&self) -> NameId
+        ensures { result.0 ≡ self.now.own.name }
+    {
+        self.node.name
+    }
+
+    /// The items in the order in which they were put.
+    pub fn items(&self) -> &'a [Item]
+        ensures { map flat_item result.now ≡ self.now.own.items }
+    {
+        self.items
+    }
+
+    /// The node above, which the root has not.
+    pub fn parent(&self) -> Option<NodeId>
+        ensures { option_map (λ p. p.0) result ≡ self.now.own.parent }
+    {
+        self.node.parent
+    }
+
+    /// The number after the node's subtree: that of the first node behind it that is not below it, or the count of nodes.
+    pub fn end(&self) -> u32
+        ensures { result ≡ self.now.end }
+    {
+        self.node.end
+    }
+}
