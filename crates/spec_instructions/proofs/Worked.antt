@@ -1,57 +1,59 @@
 -- Worked values: what the definitions say of small documents.
-use Rattle.std.specs.Prelude.{◌≡◌, ℕ, List, [], ◌∷◌, Option, Some, None, option_map, codes, map, refl}
+use Rattle.std.specs.Prelude.{◌≡◌, ℕ, List, [], ◌∷◌, Option, Some, Result, Ok, Err, option_map, codes, map, refl}
 use Rattle.std.specs.Fmt.{digits}
 use Rattle.serde_json.specs.Read.{read}
 use Rattle.serde_json.proofs.OnLiterals.{serde_json_on_literals}
 use Rattle.spec_bits.specs.PatternText.{Unquoted}
-use Rattle.spec_json.specs.Event.{first_wrong, Why, Fault, Missing, UnlistedKind, WrongShape, BadPattern, BadRange, NoSet}
-use Rattle.spec_instructions.specs.Walk.{instructions_events}
+use Rattle.spec_json.specs.Event.{Why, Fault, Missing, UnlistedKind, WrongShape, BadPattern, BadRange, BadName, Doubled, NoSet, NotYet}
+use Rattle.spec_json.specs.Limits.{◌>>=◌}
+use Rattle.spec_instructions.specs.Kind.{Set, Leaf}
 use Rattle.spec_instructions.specs.Paths.{document_paths, path_name}
+use Rattle.spec_instructions.specs.Reading.{paths_read}
 
--- the first fault of a text, with the set `A64` chosen
-abbrev fault_in : List ℕ → Option (Option Fault)
-fault_in text = option_map (λ d. first_wrong (instructions_events (codes "A64") d)) (read text)
+-- the names of the leaves of a text, with the set `A64` chosen, or its first fault
+abbrev leaves_in : List ℕ → Option (Result (List (List ℕ)) Fault)
+leaves_in text = option_map (λ d. paths_read (codes "A64") [] d >>= λ paths. Ok (map path_name paths)) (read text)
 
-abbrev at_place : List ℕ → Why → Option (Option Fault)
-at_place at why = Some (Some (record { at = at; why = why }))
+abbrev at_place : List ℕ → Why → Option (Result (List (List ℕ)) Fault)
+at_place at why = Some (Err (record { at = at; why = why }))
 
 -- one set with one field and no children
-one_field : fault_in (codes "{\"instructions\":[{\"_type\":\"Instruction.InstructionSet\",\"name\":\"A64\",\"encoding\":{\"_type\":\"Instruction.Encodeset.Encodeset\",\"width\":32,\"values\":[{\"_type\":\"Instruction.Encodeset.Field\",\"name\":\"op0\",\"range\":{\"start\":26,\"width\":3},\"value\":{\"_type\":\"Values.Value\",\"value\":\"'100'\"}}]}}]}") ≡ Some None
+one_field : leaves_in (codes "{\"instructions\":[{\"_type\":\"Instruction.InstructionSet\",\"name\":\"A64\",\"encoding\":{\"_type\":\"Instruction.Encodeset.Encodeset\",\"width\":32,\"values\":[{\"_type\":\"Instruction.Encodeset.Field\",\"name\":\"op0\",\"range\":{\"start\":26,\"width\":3},\"value\":{\"_type\":\"Values.Value\",\"value\":\"'100'\"}}]}}]}") ≡ Some (Ok [])
 unfolding digits serde_json_on_literals
 one_field = refl
 
 -- a quote that is not closed
-open_quote : fault_in (codes "{\"instructions\":[{\"_type\":\"Instruction.InstructionSet\",\"name\":\"A64\",\"encoding\":{\"_type\":\"Instruction.Encodeset.Encodeset\",\"width\":32,\"values\":[{\"_type\":\"Instruction.Encodeset.Field\",\"name\":\"op0\",\"range\":{\"start\":26,\"width\":3},\"value\":{\"_type\":\"Values.Value\",\"value\":\"'01\"}}]}}]}") ≡ at_place (codes "/instructions/0/encoding/values/0/value/value") (BadPattern (Unquoted 0))
+open_quote : leaves_in (codes "{\"instructions\":[{\"_type\":\"Instruction.InstructionSet\",\"name\":\"A64\",\"encoding\":{\"_type\":\"Instruction.Encodeset.Encodeset\",\"width\":32,\"values\":[{\"_type\":\"Instruction.Encodeset.Field\",\"name\":\"op0\",\"range\":{\"start\":26,\"width\":3},\"value\":{\"_type\":\"Values.Value\",\"value\":\"'01\"}}]}}]}") ≡ at_place (codes "/instructions/0/encoding/values/0/value/value") (BadPattern (Unquoted 0))
 unfolding digits serde_json_on_literals
 open_quote = refl
 
 -- two digits for a range of three bits
-too_few_digits : fault_in (codes "{\"instructions\":[{\"_type\":\"Instruction.InstructionSet\",\"name\":\"A64\",\"encoding\":{\"_type\":\"Instruction.Encodeset.Encodeset\",\"width\":32,\"values\":[{\"_type\":\"Instruction.Encodeset.Field\",\"name\":\"op0\",\"range\":{\"start\":26,\"width\":3},\"value\":{\"_type\":\"Values.Value\",\"value\":\"'01'\"}}]}}]}") ≡ at_place (codes "/instructions/0/encoding/values/0/value/value") BadRange
+too_few_digits : leaves_in (codes "{\"instructions\":[{\"_type\":\"Instruction.InstructionSet\",\"name\":\"A64\",\"encoding\":{\"_type\":\"Instruction.Encodeset.Encodeset\",\"width\":32,\"values\":[{\"_type\":\"Instruction.Encodeset.Field\",\"name\":\"op0\",\"range\":{\"start\":26,\"width\":3},\"value\":{\"_type\":\"Values.Value\",\"value\":\"'01'\"}}]}}]}") ≡ at_place (codes "/instructions/0/encoding/values/0/value/value") BadRange
 unfolding digits serde_json_on_literals
 too_few_digits = refl
 
 -- the empty object
-no_instructions : fault_in (codes "{}") ≡ at_place (codes "") (Missing (codes "instructions"))
+no_instructions : leaves_in (codes "{}") ≡ at_place (codes "") (Missing (codes "instructions"))
 unfolding digits serde_json_on_literals
 no_instructions = refl
 
 -- an array is no document
-no_document : fault_in (codes "[]") ≡ at_place (codes "") WrongShape
+no_document : leaves_in (codes "[]") ≡ at_place (codes "") WrongShape
 unfolding digits serde_json_on_literals
 no_document = refl
 
 -- no set has the chosen name
-other_set : fault_in (codes "{\"instructions\":[{\"_type\":\"Instruction.InstructionSet\",\"name\":\"A32\"}]}") ≡ at_place (codes "/instructions") NoSet
+other_set : leaves_in (codes "{\"instructions\":[{\"_type\":\"Instruction.InstructionSet\",\"name\":\"A32\"}]}") ≡ at_place (codes "/instructions") NoSet
 unfolding digits serde_json_on_literals
 other_set = refl
 
 -- an unlisted kind among the children
-unlisted : fault_in (codes "{\"instructions\":[{\"_type\":\"Instruction.InstructionSet\",\"name\":\"A64\",\"children\":[{\"_type\":\"Instruction.Foo\"}]}]}") ≡ at_place (codes "/instructions/0/children/0") UnlistedKind
+unlisted : leaves_in (codes "{\"instructions\":[{\"_type\":\"Instruction.InstructionSet\",\"name\":\"A64\",\"children\":[{\"_type\":\"Instruction.Foo\"}]}]}") ≡ at_place (codes "/instructions/0/children/0") UnlistedKind
 unfolding digits serde_json_on_literals
 unlisted = refl
 
 -- two leaves, one in a group, and an instance that is passed over
-two_leaves : option_map (λ d. map path_name (document_paths (codes "A64") d)) (read (codes "{\"instructions\":[{\"_type\":\"Instruction.InstructionSet\",\"name\":\"A64\",\"children\":[{\"_type\":\"Instruction.InstructionGroup\",\"name\":\"g\",\"children\":[{\"_type\":\"Instruction.Instruction\",\"name\":\"l\"},{\"_type\":\"Instruction.InstructionInstance\"}]},{\"_type\":\"Instruction.Instruction\",\"name\":\"m\"}]}]}")) ≡ Some (codes "l" ∷ codes "m" ∷ [])
+two_leaves : leaves_in (codes "{\"instructions\":[{\"_type\":\"Instruction.InstructionSet\",\"name\":\"A64\",\"children\":[{\"_type\":\"Instruction.InstructionGroup\",\"name\":\"g\",\"children\":[{\"_type\":\"Instruction.Instruction\",\"name\":\"l\"},{\"_type\":\"Instruction.InstructionInstance\"}]},{\"_type\":\"Instruction.Instruction\",\"name\":\"m\"}]}]}") ≡ Some (Ok (codes "l" ∷ codes "m" ∷ []))
 unfolding digits serde_json_on_literals
 two_leaves = refl
 
@@ -59,3 +61,80 @@ two_leaves = refl
 field_set : option_map (λ d. document_paths (codes "A64") d) (read (codes "{\"instructions\":[{\"_type\":\"Instruction.InstructionSet\",\"name\":\"A64\",\"encoding\":{\"_type\":\"Instruction.Encodeset.Encodeset\",\"width\":32,\"values\":[{\"_type\":\"Instruction.Encodeset.Field\",\"name\":\"op0\",\"range\":{\"start\":26,\"width\":3},\"value\":{\"_type\":\"Values.Value\",\"value\":\"'100'\"}}]}}]}")) ≡ Some []
 unfolding digits serde_json_on_literals
 field_set = refl
+
+-- a set with two leaves of one name, all without items: the paths to the leaves
+namesakes : option_map (λ d. document_paths (codes "A64") d) (read (codes "{\"instructions\":[{\"_type\":\"Instruction.InstructionSet\",\"name\":\"A64\",\"children\":[{\"_type\":\"Instruction.Instruction\",\"name\":\"DUP\"},{\"_type\":\"Instruction.Instruction\",\"name\":\"DUP\"}]}]}"))
+    ≡ Some ((record { kind = Set; name = codes "A64"; items = [] } ∷ record { kind = Leaf; name = codes "DUP"; items = [] } ∷ [])
+    ∷ (record { kind = Set; name = codes "A64"; items = [] } ∷ record { kind = Leaf; name = codes "DUP"; items = [] } ∷ []) ∷ [])
+unfolding digits serde_json_on_literals
+namesakes = refl
+
+-- a condition is not read yet
+conditioned : leaves_in (codes "{\"instructions\":[{\"_type\":\"Instruction.InstructionSet\",\"name\":\"A64\",\"condition\":null,\"children\":[{\"_type\":\"Instruction.Instruction\",\"name\":\"l\",\"condition\":{}}]}]}") ≡ at_place (codes "/instructions/0/children/0/condition") NotYet
+unfolding digits serde_json_on_literals
+conditioned = refl
+
+-- an alias is not read yet
+aliased : leaves_in (codes "{\"instructions\":[{\"_type\":\"Instruction.InstructionSet\",\"name\":\"A64\",\"children\":[{\"_type\":\"Instruction.Instruction\",\"name\":\"l\",\"children\":[{\"_type\":\"Instruction.InstructionInstance\"},{\"_type\":\"Instruction.InstructionAlias\"}]}]}]}") ≡ at_place (codes "/instructions/0/children/0/children/1") NotYet
+unfolding digits serde_json_on_literals
+aliased = refl
+
+-- a leaf stands in no leaf
+leaf_in_leaf : leaves_in (codes "{\"instructions\":[{\"_type\":\"Instruction.InstructionSet\",\"name\":\"A64\",\"children\":[{\"_type\":\"Instruction.Instruction\",\"name\":\"l\",\"children\":[{\"_type\":\"Instruction.Instruction\",\"name\":\"l\"}]}]}]}") ≡ at_place (codes "/instructions/0/children/0/children/0") UnlistedKind
+unfolding digits serde_json_on_literals
+leaf_in_leaf = refl
+
+-- a second set of the chosen name
+two_sets : leaves_in (codes "{\"instructions\":[{\"_type\":\"Instruction.InstructionSet\",\"name\":\"A64\"},{\"_type\":\"Instruction.InstructionSet\",\"name\":\"A64\"},5]}") ≡ at_place (codes "/instructions/1/name") Doubled
+unfolding digits serde_json_on_literals
+two_sets = refl
+
+-- two fields of one name in one encodeset, of which the second has no range
+two_fields : leaves_in (codes "{\"instructions\":[{\"_type\":\"Instruction.InstructionSet\",\"name\":\"A64\",\"encoding\":{\"_type\":\"Instruction.Encodeset.Encodeset\",\"width\":32,\"values\":[{\"_type\":\"Instruction.Encodeset.Field\",\"name\":\"op0\",\"range\":{\"start\":0,\"width\":1},\"value\":{\"_type\":\"Values.Value\",\"value\":\"x\"}},{\"_type\":\"Instruction.Encodeset.Field\",\"name\":\"op0\"}]}}]}") ≡ at_place (codes "/instructions/0/encoding/values/1/name") Doubled
+unfolding digits serde_json_on_literals
+two_fields = refl
+
+-- a field must not be named `rest`
+field_rest : leaves_in (codes "{\"instructions\":[{\"_type\":\"Instruction.InstructionSet\",\"name\":\"A64\",\"encoding\":{\"_type\":\"Instruction.Encodeset.Encodeset\",\"width\":32,\"values\":[{\"_type\":\"Instruction.Encodeset.Field\",\"name\":\"rest\",\"range\":{\"start\":0,\"width\":1},\"value\":{\"_type\":\"Values.Value\",\"value\":\"x\"}}]}}]}") ≡ at_place (codes "/instructions/0/encoding/values/0/name") BadName
+unfolding digits serde_json_on_literals
+field_rest = refl
+
+-- a leaf may be named so
+leaf_rest : leaves_in (codes "{\"instructions\":[{\"_type\":\"Instruction.InstructionSet\",\"name\":\"A64\",\"children\":[{\"_type\":\"Instruction.Instruction\",\"name\":\"rest\"}]}]}") ≡ Some (Ok (codes "rest" ∷ []))
+unfolding digits serde_json_on_literals
+leaf_rest = refl
+
+-- a name with a sign that stands for something else
+hash_name : leaves_in (codes "{\"instructions\":[{\"_type\":\"Instruction.InstructionSet\",\"name\":\"A64\",\"children\":[{\"_type\":\"Instruction.Instruction\",\"name\":\"a#1\"}]}]}") ≡ at_place (codes "/instructions/0/children/0/name") BadName
+unfolding digits serde_json_on_literals
+hash_name = refl
+
+-- another width than that of words
+narrow : leaves_in (codes "{\"instructions\":[{\"_type\":\"Instruction.InstructionSet\",\"name\":\"A64\",\"encoding\":{\"_type\":\"Instruction.Encodeset.Encodeset\",\"width\":31,\"values\":[]}}]}") ≡ at_place (codes "/instructions/0/encoding/width") WrongShape
+unfolding digits serde_json_on_literals
+narrow = refl
+
+-- a range that passes the word
+past_the_word : leaves_in (codes "{\"instructions\":[{\"_type\":\"Instruction.InstructionSet\",\"name\":\"A64\",\"encoding\":{\"_type\":\"Instruction.Encodeset.Encodeset\",\"width\":32,\"values\":[{\"_type\":\"Instruction.Encodeset.Field\",\"name\":\"a\",\"range\":{\"start\":30,\"width\":3},\"value\":{\"_type\":\"Values.Value\",\"value\":\"xxx\"}}]}}]}") ≡ at_place (codes "/instructions/0/encoding/values/0/range") BadRange
+unfolding digits serde_json_on_literals
+past_the_word = refl
+
+-- a number that is no whole number of 32 bits, before the range is judged
+huge_start : leaves_in (codes "{\"instructions\":[{\"_type\":\"Instruction.InstructionSet\",\"name\":\"A64\",\"encoding\":{\"_type\":\"Instruction.Encodeset.Encodeset\",\"width\":32,\"values\":[{\"_type\":\"Instruction.Encodeset.Field\",\"name\":\"a\",\"range\":{\"start\":4294967296,\"width\":0},\"value\":{\"_type\":\"Values.Value\",\"value\":\"\"}}]}}]}") ≡ at_place (codes "/instructions/0/encoding/values/0/range/start") WrongShape
+unfolding digits serde_json_on_literals
+huge_start = refl
+
+-- a mask with too few digits
+short_mask : leaves_in (codes "{\"instructions\":[{\"_type\":\"Instruction.InstructionSet\",\"name\":\"A64\",\"encoding\":{\"_type\":\"Instruction.Encodeset.Encodeset\",\"width\":32,\"values\":[{\"_type\":\"Instruction.Encodeset.Field\",\"name\":\"a\",\"range\":{\"start\":0,\"width\":2},\"value\":{\"_type\":\"Values.Value\",\"value\":\"01\"},\"should_be_mask\":{\"_type\":\"Values.Value\",\"value\":\"1\"}}]}}]}") ≡ at_place (codes "/instructions/0/encoding/values/0/should_be_mask/value") BadRange
+unfolding digits serde_json_on_literals
+short_mask = refl
+
+-- null where a member is needed
+null_values : leaves_in (codes "{\"instructions\":[{\"_type\":\"Instruction.InstructionSet\",\"name\":\"A64\",\"encoding\":{\"_type\":\"Instruction.Encodeset.Encodeset\",\"width\":32,\"values\":null}}]}") ≡ at_place (codes "/instructions/0/encoding/values") WrongShape
+unfolding digits serde_json_on_literals
+null_values = refl
+
+-- a set that is passed over has a kind and a name, and nothing else of it is read
+passed_over : leaves_in (codes "{\"instructions\":[{\"_type\":\"Instruction.InstructionSet\",\"name\":\"A32\",\"encoding\":7,\"children\":\"x\"},{\"_type\":\"Instruction.InstructionSet\",\"name\":\"A64\"}]}") ≡ Some (Ok [])
+unfolding digits serde_json_on_literals
+passed_over = refl

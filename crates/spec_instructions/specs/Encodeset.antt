@@ -1,12 +1,12 @@
 -- The walk over an encodeset: its items with their ranges, values, masks and names.
-use Rattle.std.specs.Prelude.{ℕ, ◌+◌, ◌^◌, List, [], ◌∷◌, ◌++◌, length, Bool, not, ◌&&◌, ◌||◌, ◌==◌, nat_le, Option, Some, None, is_some, Result, Ok, Err, codes, bytes_eq, find, option_and_then, option_map, option_to_list, unwrap_or, false}
+use Rattle.std.specs.Prelude.{ℕ, ◌+◌, ◌^◌, List, [], ◌∷◌, ◌++◌, length, Bool, not, ◌&&◌, ◌||◌, ◌==◌, nat_le, nat_lt, Option, Some, None, is_some, Result, Ok, Err, codes, bytes_eq, find, option_and_then, option_map, option_to_list, unwrap_or, false}
 use Rattle.std.specs.List.{list_any}
 use Rattle.serde_json.specs.Data.{Data, Items, no_items, item, Members}
 use Rattle.serde_json.specs.Find.{get, as_str}
 use Rattle.spec_bits.specs.Pattern.{Digit}
 use Rattle.spec_bits.specs.PatternText.{PatternRefusal, pattern_in}
 use Rattle.spec_json.specs.Pointer.{element}
-use Rattle.spec_json.specs.Event.{Event, Name, WrongShape, BadPattern, BadRange, BadName, Doubled}
+use Rattle.spec_json.specs.Event.{Event, Name, WrongShape, BadPattern, BadRange, BadName, Doubled, TooMany}
 use Rattle.spec_json.specs.Members.{wrong, unless, in_object, in_array, in_text, needed, optional, typed, whole_number}
 use Rattle.spec_instructions.specs.Name.{is_name}
 
@@ -82,9 +82,6 @@ item_parts earlier at d ms (Some Bits) = range_and_value at d ms ++ mask_events 
 item_parts earlier at d ms (Some Field) = needed (codes "name") (in_text (field_name_events earlier at)) at ms ++ (range_and_value at d ms ++ mask_events at d ms)
 item_parts earlier at d ms (Some ShouldBeBits) = range_and_value at d ms
 
-abbrev pub item_events : List (List ℕ) → List ℕ → Data → List Event
-item_events earlier at d = in_object (λ place ms. typed (λ s. is_some (item_kind_named s)) place ms ++ item_parts earlier place d ms (item_kind d)) at d
-
 -- the name of a field, as a list of at most one
 abbrev pub names_of_kind : Data → Option ItemKind → List (List ℕ)
 names_of_kind d (Some Field) = option_to_list (text_at (codes "name") d)
@@ -95,10 +92,21 @@ names_of_kind d None = []
 abbrev pub field_names : Data → List (List ℕ)
 field_names d = names_of_kind d (item_kind d)
 
--- the items in order, each knowing the names of the fields before it
-abbrev pub items_events : List ℕ → ℕ → List (List ℕ) → Items → List Event
-items_events at i earlier no_items = []
-items_events at i earlier (item d ds) = item_events earlier (element at i) d ++ items_events at (i + 1) (earlier ++ field_names d) ds
+-- an encodeset has at most 64 items, and a path at most 256 named ones: the item at a place of its encodeset, with which the path has so many named items
+abbrev pub within_limits : ℕ → ℕ → List ℕ → List Event
+within_limits place named_with_it at = unless (nat_lt place 64 && nat_le named_with_it 256) at TooMany
+
+-- the item at a place of its encodeset, behind so many named items of its path
+abbrev pub item_events : ℕ → ℕ → List (List ℕ) → List ℕ → Data → List Event
+item_events place named earlier at d = in_object (λ at ms.
+    typed (λ s. is_some (item_kind_named s)) at ms
+    ++ (item_parts earlier at d ms (item_kind d)
+    ++ within_limits place (named + length (field_names d)) at)) at d
+
+-- the items in order, each knowing the names of the fields before it and the number of named items before it on the path
+abbrev pub items_events : ℕ → List ℕ → ℕ → List (List ℕ) → Items → List Event
+items_events named at i earlier no_items = []
+items_events named at i earlier (item d ds) = item_events i named earlier (element at i) d ++ items_events (named + length (field_names d)) at (i + 1) (earlier ++ field_names d) ds
 
 -- ---- the encodeset
 
@@ -110,5 +118,6 @@ is_32 (Some n) = n == 32
 abbrev pub width_events : List ℕ → Data → List Event
 width_events at d = unless (is_32 (whole_number (2 ^ 64) d)) at WrongShape
 
-abbrev pub encodeset_events : List ℕ → Data → List Event
-encodeset_events at d = in_object (λ place ms. typed (bytes_eq (codes "Instruction.Encodeset.Encodeset")) place ms ++ (needed (codes "width") width_events place ms ++ needed (codes "values") (in_array (λ list_place ds. items_events list_place 0 [] ds)) place ms)) at d
+-- an encodeset behind so many named items of its path
+abbrev pub encodeset_events : ℕ → List ℕ → Data → List Event
+encodeset_events named at d = in_object (λ place ms. typed (bytes_eq (codes "Instruction.Encodeset.Encodeset")) place ms ++ (needed (codes "width") width_events place ms ++ needed (codes "values") (in_array (λ list_place ds. items_events named list_place 0 [] ds)) place ms)) at d

@@ -5,3 +5,5 @@ pub mod EncodesetItems
 pub mod Walk
 pub mod Tree
 pub mod Paths
+pub mod Fields
+pub mod Reading

@@ -1,5 +1,6 @@
 -- The paths from the set to each leaf, and the labels of leaves.
-use Rattle.std.specs.Prelude.{ℕ, List, [], ◌∷◌, ◌++◌, Option, Some, None, if◌then◌else◌, nat_lt, bytes_eq, count_by, decimal, flat_map, slice_index_or}
+use Rattle.std.specs.Prelude.{ℕ, List, [], ◌∷◌, ◌++◌, Option, Some, None, if◌then◌else◌, nat_lt, bytes_eq, count_by, decimal, flat_map, slice_index_or, Bool, find, length}
+use Rattle.std.specs.List.{range_with_len}
 use Rattle.serde_json.specs.Data.{Data}
 use Rattle.spec_bits.specs.Item.{Item}
 use Rattle.spec_instructions.specs.Kind.{Kind, Set, Group, Leaf, Alias, Instance}
@@ -50,3 +51,10 @@ labelled sakes name k = if nat_lt 1 sakes then name ++ 35 ∷ decimal k else nam
 
 abbrev pub label : List (List Own) → ℕ → List ℕ
 label paths k = labelled (namesakes (path_name (slice_index_or paths k [])) paths) (path_name (slice_index_or paths k [])) k
+
+-- the number of the first leaf with that label
+abbrev pub has_label : List (List Own) → List ℕ → ℕ → Bool
+has_label paths text k = bytes_eq (label paths k) text
+
+abbrev pub labelled_leaf : List (List Own) → List ℕ → Option ℕ
+labelled_leaf paths text = find (has_label paths text) (range_with_len 0 (length paths))

@@ -1,5 +1,6 @@
 -- The walk over an Instructions document: its events in order, by cases on the JSON value.
-use Rattle.std.specs.Prelude.{ℕ, ◌+◌, List, [], ◌∷◌, ◌++◌, Bool, true, false, not, ◌&&◌, ◌||◌, Option, Some, None, is_some, codes, bytes_eq}
+use Rattle.std.specs.Prelude.{ℕ, ◌+◌, List, [], ◌∷◌, ◌++◌, Bool, true, false, not, ◌&&◌, ◌||◌, Option, Some, None, is_some, codes, bytes_eq, count_by}
+use Rattle.serde_json.specs.Find.{get_member}
 use Rattle.std.specs.Ordering.{nat_cmp, match_ordering}
 use Rattle.std.specs.Cmp.Lexicographic.{slice_cmp}
 use Rattle.serde_json.specs.Data.{Data, null, array, object, Items, no_items, item, Members, no_members, member}
@@ -9,6 +10,7 @@ use Rattle.spec_json.specs.Members.{wrong, unless, in_object, in_array, in_text,
 use Rattle.spec_instructions.specs.Name.{is_name}
 use Rattle.spec_instructions.specs.Kind.{Kind, Set, Group, Leaf, Alias, Instance, kinds_in, kind_named, kind_among}
 use Rattle.spec_instructions.specs.Encodeset.{encodeset_events, text_at}
+use Rattle.spec_instructions.specs.EncodesetItems.{encodeset_items}
 
 -- a node's name: the limit on names comes directly after its text
 abbrev pub name_events : List ℕ → List ℕ → List ℕ → List Event
@@ -22,22 +24,26 @@ counted Leaf at = OneMore ANode at ∷ OneMore ALeaf at ∷ []
 counted Alias at = OneMore ANode at ∷ OneMore AnAlias at ∷ []
 counted Instance at = []
 
--- what a set, a group or a leaf says of itself
-abbrev pub own_events : Kind → List ℕ → Members → List Event
-own_events kind at ms =
+-- how many named items an object's encodeset adds to a path
+abbrev pub named_items : Members → ℕ
+named_items ms = count_by (λ it. is_some it.name) (encodeset_items (get_member (codes "encoding") ms))
+
+-- what a set, a group or a leaf says of itself, behind so many named items of its path
+abbrev pub own_events : Kind → ℕ → List ℕ → Members → List Event
+own_events kind named at ms =
     needed (codes "name") (in_text (name_events at)) at ms
     ++ (counted kind at
-    ++ (optional (codes "encoding") encodeset_events at ms
+    ++ (optional (codes "encoding") (encodeset_events named) at ms
     ++ optional (codes "condition") (λ place d. wrong place NotYet) at ms))
 
 -- a child after its `_type`, whose kind decides how it is read: `children` are the events of its own children
-abbrev pub child_events : List ℕ → Members → Option Kind → List Event → List Event
-child_events at ms None children = []
-child_events at ms (Some Set) children = own_events Set at ms ++ children
-child_events at ms (Some Group) children = own_events Group at ms ++ children
-child_events at ms (Some Leaf) children = own_events Leaf at ms ++ children
-child_events at ms (Some Alias) children = wrong at NotYet
-child_events at ms (Some Instance) children = []
+abbrev pub child_events : ℕ → List ℕ → Members → Option Kind → List Event → List Event
+child_events named at ms None children = []
+child_events named at ms (Some Set) children = own_events Set named at ms ++ children
+child_events named at ms (Some Group) children = own_events Group named at ms ++ children
+child_events named at ms (Some Leaf) children = own_events Leaf named at ms ++ children
+child_events named at ms (Some Alias) children = wrong at NotYet
+child_events named at ms (Some Instance) children = []
 
 -- the kinds that stand below a child
 abbrev pub kinds_below : Option Kind → List Kind
@@ -45,25 +51,27 @@ kinds_below None = []
 kinds_below (Some kind) = kinds_in kind
 
 abbrev mutual
-  -- an element of `children`, one of these kinds
-  pub node_events : List Kind → List ℕ → Data → List Event
-  node_events kinds at (object ms) = typed (λ s. is_some (kind_named kinds s)) at ms ++ child_events at ms (kind_among kinds (object ms)) (children_events (kinds_below (kind_among kinds (object ms))) at ms)
-  node_events kinds at d = wrong at WrongShape
+  -- an element of `children`, one of these kinds, behind so many named items of its path
+  pub node_events : List Kind → ℕ → List ℕ → Data → List Event
+  node_events kinds named at (object ms) =
+      typed (λ s. is_some (kind_named kinds s)) at ms
+      ++ child_events named at ms (kind_among kinds (object ms)) (children_events (kinds_below (kind_among kinds (object ms))) (named + named_items ms) at ms)
+  node_events kinds named at d = wrong at WrongShape
 
   -- the member `children` of an object, if it is there
-  pub children_events : List Kind → List ℕ → Members → List Event
-  children_events kinds at no_members = []
-  children_events kinds at (member key d ms) = match_ordering (slice_cmp nat_cmp (codes "children") key) (children_events kinds at ms) (list_events kinds (under at (codes "children")) d) (children_events kinds at ms)
+  pub children_events : List Kind → ℕ → List ℕ → Members → List Event
+  children_events kinds named at no_members = []
+  children_events kinds named at (member key d ms) = match_ordering (slice_cmp nat_cmp (codes "children") key) (children_events kinds named at ms) (list_events kinds named (under at (codes "children")) d) (children_events kinds named at ms)
 
   -- an array of nodes; null is as good as absent
-  pub list_events : List Kind → List ℕ → Data → List Event
-  list_events kinds at null = []
-  list_events kinds at (array ds) = nodes_events kinds at 0 ds
-  list_events kinds at d = wrong at WrongShape
+  pub list_events : List Kind → ℕ → List ℕ → Data → List Event
+  list_events kinds named at null = []
+  list_events kinds named at (array ds) = nodes_events kinds named at 0 ds
+  list_events kinds named at d = wrong at WrongShape
 
-  pub nodes_events : List Kind → List ℕ → ℕ → Items → List Event
-  nodes_events kinds at i no_items = []
-  nodes_events kinds at i (item d ds) = node_events kinds (element at i) d ++ nodes_events kinds at (i + 1) ds
+  pub nodes_events : List Kind → ℕ → List ℕ → ℕ → Items → List Event
+  nodes_events kinds named at i no_items = []
+  nodes_events kinds named at i (item d ds) = node_events kinds named (element at i) d ++ nodes_events kinds named at (i + 1) ds
 
 -- ---- the document
 
@@ -80,12 +88,15 @@ abbrev pub set_name_events : List ℕ → Bool → List ℕ → List ℕ → Lis
 set_name_events isa found at text = unless (is_name text) at BadName ++ unless (not (found && bytes_eq text isa)) at Doubled
 
 -- a set of the chosen name is read on; any other is passed over, and its name takes no number
-abbrev pub set_parts : List ℕ → Data → Members → Bool → List Event
-set_parts at d ms false = []
-set_parts at d ms true = own_events Set at ms ++ children_events (kinds_in Set) at ms
+abbrev pub set_parts : List ℕ → Members → Bool → List Event
+set_parts at ms false = []
+set_parts at ms true = own_events Set 0 at ms ++ children_events (kinds_in Set) (named_items ms) at ms
 
 abbrev pub set_events : List ℕ → Bool → List ℕ → Data → List Event
-set_events isa found at d = in_object (λ place ms. typed (λ s. is_some (kind_named (Set ∷ []) s)) place ms ++ (needed (codes "name") (in_text (set_name_events isa found)) place ms ++ set_parts place d ms (is_chosen isa d))) at d
+set_events isa found at d = in_object (λ at ms.
+    typed (λ s. is_some (kind_named (Set ∷ []) s)) at ms
+    ++ (needed (codes "name") (in_text (set_name_events isa found)) at ms
+    ++ set_parts at ms (is_chosen isa d))) at d
 
 -- the elements in order, each knowing whether a chosen set stood before it; a fault of the array where none has the chosen name
 abbrev pub sets_events : List ℕ → List ℕ → ℕ → Bool → Items → List Event

@@ -1,5 +1,5 @@
 -- What a reader meets in a document, in order: names, one more of a counted thing, and faults, each at its place.
-use Rattle.std.specs.Prelude.{ℕ, List, [], ◌∷◌, Option, Some, None}
+use Rattle.std.specs.Prelude.{ℕ, List}
 use Rattle.spec_bits.specs.PatternText.{PatternRefusal}
 
 -- why a document is refused
@@ -32,10 +32,3 @@ pub data Event : Type 0 where
   -- one more of that thing, at its object
   OneMore : Thing → List ℕ → Event
   Wrong : Fault → Event
-
--- the first event that is a fault in itself, limits on counts aside
-abbrev pub first_wrong : List Event → Option Fault
-first_wrong [] = None
-first_wrong (Name at text ∷ es) = first_wrong es
-first_wrong (OneMore thing at ∷ es) = first_wrong es
-first_wrong (Wrong f ∷ es) = Some f

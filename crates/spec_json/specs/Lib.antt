@@ -1,3 +1,4 @@
 pub mod Pointer
 pub mod Event
+pub mod Limits
 pub mod Members

@@ -3,10 +3,12 @@ use Rattle.std.specs.Prelude.{◌≡◌, ℕ, List, [], ◌∷◌, ◌++◌, Non
 use Rattle.std.specs.Fmt.{digits}
 use Rattle.spec_bits.specs.Pattern.{Digit, Zero, One}
 use Rattle.spec_bits.specs.Item.{Item}
-use Rattle.spec_instructions.specs.Kind.{Leaf}
-use Rattle.spec_instructions.specs.Tree.{Own}
+use Rattle.spec_instructions.specs.Kind.{Kind, Set, Leaf}
+use Rattle.spec_instructions.specs.Tree.{Own, Node, node, no_nodes, more}
+use Rattle.spec_instructions.specs.Paths.{paths_from}
 use Rattle.spec_lines.specs.Line.{line}
 use Rattle.spec_lines.specs.Listing.{stream_lines}
+use Rattle.spec_lines.specs.Leaf.{leaf_text}
 
 -- bits without a name, none of them should-be
 abbrev bits : ℕ → List Digit → Item
@@ -37,3 +39,23 @@ two_leaves = refl
 ragged : stream_lines paths (0x20 ∷ 0x04 ∷ 0x00 ∷ 0x91 ∷ 0xc0 ∷ 0x03 ∷ 0x5f ∷ []) ≡ codes "00000000 91000420 one ADD_64_addsub_imm\n" ++ codes "00000004 rest c0035f\n"
 unfolding digits
 ragged = refl
+
+-- the set `A64` whose children are two leaves of one name, all without items
+abbrev own : Kind → List ℕ → Own
+own kind name = record { kind = kind; name = name; items = [] }
+
+abbrev namesakes : Node
+namesakes = node (own Set (codes "A64")) (more (node (own Leaf (codes "DUP")) no_nodes) (more (node (own Leaf (codes "DUP")) no_nodes) no_nodes))
+
+second_namesake : leaf_text (paths_from [] namesakes) 1 ≡ codes "leaf DUP#1\npath A64 DUP\nbits xxxxxxxxxxxxxxxxxxxxxxxxxxxxxxxx\n"
+unfolding digits
+second_namesake = refl
+
+-- bits that are fixed on the path, and bits that two items fix to different values
+fixed_bits : leaf_text paths 0 ≡ codes "leaf ADD_64_addsub_imm\npath ADD_64_addsub_imm\nbits 1xx100010xxxxxxxxxxxxxxxxxxxxxxx\n"
+unfolding digits
+fixed_bits = refl
+
+clash : leaf_text (leaf (codes "l") (bits 0 (Zero ∷ []) ∷ bits 0 (One ∷ []) ∷ []) ∷ []) 0 ≡ codes "leaf l\npath l\nbits clash\n"
+unfolding digits
+clash = refl

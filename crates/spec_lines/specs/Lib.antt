@@ -1,3 +1,4 @@
 pub mod Hex
 pub mod Line
 pub mod Listing
+pub mod Leaf

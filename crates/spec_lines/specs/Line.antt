@@ -5,7 +5,7 @@ use Rattle.spec_instructions.specs.Paths.{label}
 use Rattle.spec_decode.specs.Found.{found}
 use Rattle.spec_lines.specs.Hex.{hex}
 
--- one of several leaves
+-- one of several leaves, with its verdict, which is yes while there are no conditions
 abbrev pub candidate : List (List Own) → ℕ → List ℕ
 candidate paths k = 32 ∷ (label paths k ++ codes " yes")
 
