@@ -1,4 +1,5 @@
 pub mod DigitLaws
+pub mod MarkLaws
 pub mod ValueLaws
 pub mod HoldsLaws
 pub mod JoinLaws

@@ -1,11 +1,10 @@
 -- The arrays of an arena.
-use Rattle.std.proofs.Common.{◌≡◌, ◌∙◌, sym, ap, refl, subst, ℕ, ◌+◌, ◌<◌, ◌≤◌, List, [], ◌∷◌, length, map, get_or, Option, Some, None, option_map, IfSome, All, arith, ◌++◌, take, drop, append-nil}
+use Rattle.std.proofs.Common.{◌≡◌, ◌∙◌, sym, ap, refl, subst, ℕ, ◌<◌, List, [], ◌∷◌, length, map, get_or, Option, Some, None, option_map, IfSome, All, arith, ◌++◌, take, drop, append-nil}
 use Rattle.std.proofs.lemmas.List.{get_or-map, length-map, drop_all, take_all}
 use Rattle.mrs_arena.specs.declared.item.Item.{Item}
 use Rattle.mrs_arena.specs.declared.node.Node.{Node}
 use Rattle.mrs_arena.specs.declared.node_id.NodeId.{NodeId}
-use Rattle.mrs_arena.specs.Flat.{FlatNode}
-use Rattle.mrs_arena.specs.Paths.{path_up, ancestors, end_of, IsPreorder}
+use Rattle.mrs_arena.specs.Paths.{path_up, end_of, IsPreorder}
 use Rattle.mrs_arena.specs.Nodes.{parents_of}
 use Rattle.mrs_arena.specs.Formed.{AreNodes}
 use Rattle.mrs_arena.specs.Inside.{parent_of, flat_node, flat_nodes, HasRange, HasEnds, without_end, AreOpen, AreClosed, IsPathFrom}

@@ -1,12 +1,12 @@
 -- Laws of the ends of subtrees.
-use Rattle.std.proofs.Common.{◌≡◌, ◌∙◌, sym, ap, refl, subst, ℕ, zero, suc, ◌+◌, ◌-◌, ◌<◌, ◌≤◌, Bool, true, false, List, [], ◌∷◌, ◌++◌, length, drop, get_or, Option, Some, None, arith, ◌⊎◌, inl, inr, Contains, length-drop, not, ◌≢◌, cond, add-zero}
+use Rattle.std.proofs.Common.{◌≡◌, ◌∙◌, sym, ap, refl, subst, ℕ, zero, suc, ◌+◌, ◌-◌, ◌<◌, ◌≤◌, true, false, List, length, drop, get_or, Option, Some, None, arith, ◌⊎◌, inl, inr, Contains, length-drop, not, ◌≢◌, cond, add-zero}
 use Rattle.std.specs.List.{position_or_len}
-use Rattle.std.proofs.lemmas.Bool.{cases_lt, cases_eq, ltb-true, ltb-false, lt-ltb, le-ltb}
+use Rattle.std.proofs.lemmas.Bool.{cases_lt, cases_eq, ltb-false, le-ltb}
 use Rattle.std.proofs.lemmas.List.{get_or-drop, drop_more, drop_all}
 use Rattle.std.proofs.lemmas.List.Sums.{prefix_len-le-length, fails_before_first, passes_at_first}
 use Rattle.mrs_arena.specs.Paths.{ancestors, IsPreorder, is_outside, end_of, IsSubtree}
 use Rattle.mrs_arena.proofs.PathLaws.{IsAbove, ancestors-self, ancestors-above, ancestors-cases, ancestors-le, ancestors-trans}
-use Rattle.mrs_arena.proofs.PreorderLaws.{IsPreorder-parent, IsPreorder-before, IsPreorder-root}
+use Rattle.mrs_arena.proofs.PreorderLaws.{IsPreorder-parent, IsPreorder-before}
 
 -- a subtree has its node, and ends within the nodes
 pub end_of-above : (parents : List (Option ℕ)) (n : ℕ) → n < end_of parents n

@@ -1,17 +1,14 @@
 -- What holds of every item.
-use Rattle.std.proofs.Common.{◌≡◌, ◌∙◌, sym, ap, refl, ℕ, zero, suc, ◌+◌, ◌≤◌, Bool, true, false, not, ◌&&◌, ◌||◌, cond, ◌==◌, List, [], ◌∷◌, length, Some, is_some, bit_and, arith}
+use Rattle.std.proofs.Common.{◌≡◌, ◌∙◌, sym, ap, refl, ℕ, zero, suc, true, not, ◌&&◌, ◌||◌, cond, ◌==◌, is_some, bit_and, arith}
 use Rattle.spec_bits.specs.Bits.{bit_of}
 use Rattle.spec_bits.specs.Pattern.{Zero, One, Either, digit_value}
-use Rattle.bit_pattern.specs.Digits.{digit_at, digits_below}
-use Rattle.mrs_arena.specs.Marks.{marks_of}
+use Rattle.bit_pattern.specs.Digits.{digits_below}
+use Rattle.bit_pattern.specs.Marks.{marks_of}
+use Rattle.bit_pattern.proofs.MarkLaws.{length-marks_of}
 use Rattle.bit_pattern.proofs.DigitLaws.{length-digits_below, BitPair, free, fixed_0, fixed_1, BitPair-at}
 use Rattle.mrs_arena.specs.Views.{flat_item}
 use Rattle.mrs_arena.specs.Formed.{IsItem, are_binary_where_marked}
 use Rattle.mrs_arena.specs.declared.item.Item.{Item}
-
-pub length-marks_of : (n marks : ℕ) → length (marks_of n marks) ≡ n
-length-marks_of zero marks = refl
-length-marks_of (suc n) marks = ap suc (length-marks_of n marks)
 
 -- one bit: m of the mask, v of the value, s of the marks
 binary_bit : (m v s : ℕ) → BitPair m v → BitPair m s → (not (s == 1) || is_some (digit_value (cond (m == 0) Either (cond (v == 0) Zero One)))) ≡ true

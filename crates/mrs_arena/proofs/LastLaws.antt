@@ -1,5 +1,5 @@
 -- One more item at the last node of a builder's arrays.
-use Rattle.std.proofs.Common.{◌≡◌, ◌∙◌, sym, ap, refl, subst, ℕ, ◌+◌, ◌-◌, ◌<◌, ◌≤◌, Bool, false, ◌||◌, ◌&&◌, cond, nat_le, List, [], ◌∷◌, ◌++◌, length, map, take, drop, get_or, set, Option, Some, None, is_some, option_map, slice_get, arith, length-drop}
+use Rattle.std.proofs.Common.{◌≡◌, ◌∙◌, sym, ap, refl, subst, ℕ, ◌+◌, ◌-◌, ◌<◌, Bool, false, ◌||◌, ◌&&◌, cond, nat_le, List, [], ◌∷◌, ◌++◌, length, map, take, drop, get_or, set, Some, is_some, slice_get, arith, length-drop}
 use Rattle.std.specs.Prelude.{slice_range}
 use Rattle.std.proofs.lemmas.List.{map_push, length-map, length_push, get_or_push, take-append-drop, drop_all, drop_more, set_at, length-take-le, nil_from_length}
 use Rattle.std.proofs.lemmas.List.Elements.{All-pop}
@@ -10,6 +10,7 @@ use Rattle.mrs_arena.specs.Views.{flat_item}
 use Rattle.mrs_arena.specs.Nodes.{parents_of, last_items, named_on, with_item, is_taken}
 use Rattle.mrs_arena.specs.Limits.{is_item_refused}
 use Rattle.mrs_arena.specs.Inside.{flat_node, flat_nodes, HasRange, AreOpen}
+use Rattle.mrs_arena.proofs.HeldLaws.{is_some-map}
 use Rattle.mrs_arena.proofs.NodeLaws.{length-parents_of, last_items-push, with_item-push}
 use Rattle.mrs_arena.proofs.OpenLaws.{longer, flat_nodes-item, last_to, AreOpen-item}
 
@@ -32,10 +33,6 @@ IsLast-get nodes node at =
 -- a write to the last place
 set-last : (front : List Node) (node new : Node) (n : ℕ) → n ≡ length (front ++ node ∷ []) - 1 → set (front ++ node ∷ []) n new ≡ front ++ new ∷ []
 set-last front node new n last = set_at front node [] new n (omega (arith, length_push front node))
-
-is_some-map : {A B : Type 0} (f : A → B) (o : Option A) → is_some (option_map f o) ≡ is_some o
-is_some-map f None = refl
-is_some-map f (Some x) = refl
 
 -- the last node's items are as many as its range, and the named items on its path as many as are kept
 length-own : (front : List Node) (node : Node) (items : List Item) → HasRange items node → length (last_items (flat_nodes items (front ++ node ∷ []))) ≡ node.to - node.from

@@ -1,7 +1,9 @@
 pub mod PathLaws
 pub mod PreorderLaws
 pub mod EndLaws
+pub mod AlongLaws
 pub mod NodeLaws
+pub mod HeldLaws
 pub mod PutLaws
 pub mod FormedLaws
 pub mod ItemLaws
@@ -9,4 +11,4 @@ pub mod OpenLaws
 pub mod LastLaws
 pub mod FillLaws
 pub mod ClosedLaws
-pub mod MarkLaws
+pub mod TreePaths

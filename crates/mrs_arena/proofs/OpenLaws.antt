@@ -1,23 +1,23 @@
 -- The arrays of a builder, as nodes and items are put.
-use Rattle.std.proofs.Common.{◌≡◌, ◌∙◌, sym, ap, refl, subst, ℕ, zero, suc, ◌+◌, ◌-◌, ◌<◌, ◌≤◌, Bool, true, false, ◌||◌, nat_le, cond, List, [], ◌∷◌, ◌++◌, length, map, take, drop, get_or, set, Option, Some, None, is_some, option_map, IfSome, arith, ◌⊎◌, inl, inr, All, length-append, length-drop, zero-add}
+use Rattle.std.proofs.Common.{◌≡◌, ◌∙◌, sym, ap, refl, subst, ℕ, ◌+◌, ◌-◌, ◌<◌, ◌≤◌, Bool, true, false, nat_le, cond, List, [], ◌∷◌, ◌++◌, length, map, take, drop, get_or, Option, Some, None, is_some, option_map, IfSome, arith, ◌⊎◌, inl, inr, All, length-drop, zero-add}
 use Rattle.std.specs.Prelude.{slice_range}
 use Rattle.std.specs.Int.{from_bool}
 use Rattle.std.proofs.lemmas.Bool.{cases_lt, lt-leb, or_from}
-use Rattle.std.proofs.lemmas.List.{map_push, map-append, length-map, length_push, get_or_push, get_or_append_left, drop-append-le, take-append-le, take_all, take-append-drop, drop_all, drop_more, set_at}
+use Rattle.std.proofs.lemmas.List.{map_push, length-map, length_push, get_or_push, get_or_append_left, drop-append-le, take-append-le, take_all, drop_all}
 use Rattle.std.proofs.lemmas.List.Elements.{All-push, All-pop, All-head, All-tail}
 use Rattle.mrs_arena.specs.declared.kind.Kind.{Kind}
 use Rattle.mrs_arena.specs.declared.item.Item.{Item}
 use Rattle.mrs_arena.specs.declared.node.Node.{Node}
 use Rattle.mrs_arena.specs.declared.node_id.NodeId.{NodeId}
-use Rattle.mrs_arena.specs.Flat.{FlatItem, FlatNode}
+use Rattle.mrs_arena.specs.Flat.{FlatNode}
 use Rattle.mrs_arena.specs.Views.{flat_item}
 use Rattle.mrs_arena.specs.Paths.{IsPlace}
-use Rattle.mrs_arena.specs.Nodes.{parents_of, last_items, named_on, new_node, with_item, is_taken}
+use Rattle.mrs_arena.specs.Nodes.{parents_of, named_on, new_node, is_taken}
 use Rattle.mrs_arena.specs.Limits.{is_leaf, is_alias, leaf_count, alias_count, is_kind_full, is_node_refused, is_item_refused}
 use Rattle.mrs_arena.specs.Formed.{AreNodes}
 use Rattle.mrs_arena.specs.Inside.{parent_of, flat_node, flat_nodes, HasRange, kept_count, AreOpen}
 use Rattle.mrs_arena.proofs.PreorderLaws.{IsPlace-lt}
-use Rattle.mrs_arena.proofs.NodeLaws.{length-parents_of, named_in, named_up, named_on-append, named_on-push, count_by_push, with_item-push}
+use Rattle.mrs_arena.proofs.NodeLaws.{length-parents_of, named_in, named_up, named_on-append, named_on-push, count_by_push}
 use Rattle.mrs_arena.proofs.FormedLaws.{grown, AreNodes-none, AreNodes-push, AreNodes-item, leaf_count-push, alias_count-push}
 use Rattle.mrs_arena.proofs.ItemLaws.{IsItem-flat}
 

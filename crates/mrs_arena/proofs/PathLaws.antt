@@ -1,9 +1,9 @@
 -- Laws of paths.
-use Rattle.std.proofs.Common.{◌≡◌, ◌∙◌, sym, ap, refl, subst, ℕ, zero, suc, ◌+◌, ◌-◌, ◌<◌, ◌≤◌, List, [], ◌∷◌, ◌++◌, length, take, drop, get_or, Option, Some, None, arith, append-nil, append_assoc, length-append, ◌⊎◌, inl, inr, Contains, All}
-use Rattle.std.proofs.lemmas.Bool.{cases_lt, cases_eq}
-use Rattle.std.proofs.lemmas.List.{get_or_append_left, get_or_push, get_or_past, length_push, take-append-drop, take_more, drop_more, length-take-le, length-take}
-use Rattle.std.proofs.lemmas.List.Elements.{Contains-get_or, Contains-append_right, Contains-append_cases, All-contains, All-cons}
-use Rattle.mrs_arena.specs.Paths.{path_from, paths_after, path_up, ancestors, last_path, IsPlace, IsPreorder}
+use Rattle.std.proofs.Common.{◌≡◌, ◌∙◌, sym, ap, refl, subst, ℕ, zero, suc, ◌+◌, ◌<◌, ◌≤◌, List, [], ◌∷◌, ◌++◌, length, take, drop, get_or, Option, Some, None, arith, append_assoc, length-append, ◌⊎◌, inl, inr, Contains, All}
+use Rattle.std.proofs.lemmas.Bool.{cases_lt}
+use Rattle.std.proofs.lemmas.List.{get_or_append_left, get_or_push, get_or_past, length_push, take-append-drop, drop_more, length-take-le, length-take}
+use Rattle.std.proofs.lemmas.List.Elements.{Contains-get_or, Contains-append_right, Contains-append_cases}
+use Rattle.mrs_arena.specs.Paths.{path_from, paths_after, path_up, ancestors}
 
 -- ---- the paths of all nodes
 

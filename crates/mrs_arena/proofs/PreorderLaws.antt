@@ -1,9 +1,9 @@
 -- Laws of preorder: where a node may be put, and what follows for its parent.
-use Rattle.std.proofs.Common.{◌≡◌, ◌∙◌, sym, ap, refl, subst, ℕ, zero, suc, ◌+◌, ◌-◌, ◌<◌, ◌≤◌, List, [], ◌∷◌, ◌++◌, length, take, drop, get_or, Option, Some, None, arith, ◌⊎◌, inl, inr, Contains, length-append, length-take}
+use Rattle.std.proofs.Common.{◌≡◌, ◌∙◌, sym, ap, subst, ℕ, ◌-◌, ◌<◌, ◌≤◌, List, [], ◌∷◌, ◌++◌, length, take, get_or, Option, Some, None, arith, ◌⊎◌, inl, inr, Contains, length-append, length-take}
 use Rattle.std.proofs.lemmas.Bool.{cases_lt}
-use Rattle.std.proofs.lemmas.List.{get_or_append_left, get_or_push, length_push, take-append-le, take_at, length-take-le}
+use Rattle.std.proofs.lemmas.List.{get_or_append_left, get_or_push, length_push, take-append-le, take_at}
 use Rattle.mrs_arena.specs.Paths.{path_up, ancestors, last_path, IsPlace, IsPreorder}
-use Rattle.mrs_arena.proofs.PathLaws.{ancestors-push, ancestors-past, ancestors-le, ancestors-take, ancestors-self, ancestors-trans, Contains-here, Contains-there, Contains-none}
+use Rattle.mrs_arena.proofs.PathLaws.{ancestors-push, ancestors-past, ancestors-le, ancestors-take, ancestors-trans, Contains-here, Contains-there, Contains-none}
 
 -- ---- places
 

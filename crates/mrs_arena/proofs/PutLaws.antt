@@ -1,13 +1,12 @@
 -- For those who put a tree's nodes one by one: what the nodes are, and where the next may be put.
-use Rattle.std.proofs.Common.{◌≡◌, ◌∙◌, sym, ap, refl, subst, ℕ, ◌+◌, ◌-◌, ◌<◌, List, [], ◌∷◌, ◌++◌, length, get_or, Option, Some, None, arith, Contains}
-use Rattle.std.proofs.lemmas.List.{length_push}
+use Rattle.std.proofs.Common.{◌≡◌, sym, ap, refl, subst, ℕ, ◌+◌, ◌<◌, List, [], ◌∷◌, ◌++◌, length, get_or, Option, Some, None, arith}
 use Rattle.mrs_arena.specs.Flat.{FlatItem, FlatNode}
-use Rattle.mrs_arena.specs.Paths.{ancestors, IsPlace}
-use Rattle.mrs_arena.specs.Nodes.{parents_of, last_items, with_item}
+use Rattle.mrs_arena.specs.Paths.{IsPlace}
+use Rattle.mrs_arena.specs.Nodes.{parents_of, with_item}
 use Rattle.mrs_arena.specs.Limits.{is_leaf, is_alias, leaf_count, alias_count}
 use Rattle.mrs_arena.proofs.PathLaws.{ancestors-self, ancestors-above}
-use Rattle.mrs_arena.proofs.PreorderLaws.{IsPlace-lt, IsPlace-last, IsPlace-beside, IsPlace-up}
-use Rattle.mrs_arena.proofs.NodeLaws.{parents_of-append, length-parents_of, last_items-push, count_by-append}
+use Rattle.mrs_arena.proofs.PreorderLaws.{IsPlace-lt, IsPlace-last, IsPlace-up}
+use Rattle.mrs_arena.proofs.NodeLaws.{parents_of-append, length-parents_of, count_by-append}
 
 -- ---- one more item
 

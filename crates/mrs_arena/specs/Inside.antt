@@ -1,5 +1,5 @@
 -- What the arrays of a builder and an arena stand for, and what holds of them.
-use Rattle.std.specs.Prelude.{◌≡◌, ℕ, ◌+◌, ◌-◌, ◌≤◌, ◌<◌, List, length, map, option_map, All, slice_range, slice_index, Option, Some, None, IfSome}
+use Rattle.std.specs.Prelude.{◌≡◌, ℕ, ◌-◌, ◌≤◌, ◌<◌, List, length, map, option_map, All, slice_range, slice_index, Option, Some, None, IfSome}
 use Rattle.mrs_arena.specs.declared.item.Item.{Item}
 use Rattle.mrs_arena.specs.declared.node.Node.{Node}
 use Rattle.mrs_arena.specs.declared.node_id.NodeId.{NodeId}

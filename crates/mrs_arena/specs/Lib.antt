@@ -1,4 +1,3 @@
-pub mod Marks
 pub mod Flat
 pub mod Views
 pub mod Paths
@@ -6,3 +5,4 @@ pub mod Nodes
 pub mod Limits
 pub mod Formed
 pub mod Inside
+pub mod Placed

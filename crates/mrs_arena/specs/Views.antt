@@ -1,6 +1,6 @@
 -- What this crate's items stand for.
-use Rattle.std.specs.Prelude.{ℕ, option_map}
-use Rattle.mrs_arena.specs.Marks.{marks_of}
+use Rattle.std.specs.Prelude.{option_map}
+use Rattle.bit_pattern.specs.Marks.{marks_of}
 use Rattle.bit_pattern.specs.Views.{digits_of}
 use Rattle.mrs_arena.specs.Flat.{FlatItem}
 use Rattle.mrs_arena.specs.declared.item.Item.{Item}

@@ -46,6 +46,7 @@ impl ArenaBuilder {
     ghost use Rattle.mrs_arena.specs.Views.{flat_item};
     ghost use Rattle.mrs_arena.specs.Nodes.{parents_of, last_items, new_node, with_item, is_taken};
     ghost use Rattle.mrs_arena.specs.Limits.{is_node_refused, is_item_refused};
+    ghost use Rattle.mrs_arena.specs.Formed.{AreNodes};
 
     /// No nodes.
     pub fn new(alloc: Global) -> ArenaBuilder
@@ -76,6 +77,7 @@ impl ArenaBuilder {
 
         ensures too_many { result ≡ Err BuildFault.TooMany → is_node_refused self.old kind ≡ true }
         ensures unchanged { OnErr result (self.new ≡ self.old) }
+        ensures formed { AreNodes self.new }
     {
         let number = self.nodes.len();
         if number >= MOST_NODES || is_full(kind, self.leaves, self.aliases) {
@@ -107,6 +109,7 @@ impl ArenaBuilder {
 
         ensures too_many { result ≡ Err BuildFault.TooMany → is_item_refused self.old (flat_item it) ≡ true }
         ensures unchanged { OnErr result (self.new ≡ self.old) }
+        ensures formed { AreNodes self.new }
     {
         let last = self.nodes.len() - 1;
         let node = self.nodes[last];

@@ -1,6 +1,6 @@
-use Rattle.std.proofs.Common.{◌≡◌, ◌∙◌, sym, ap, map, length, None, get_or, arith, true}
+use Rattle.std.proofs.Common.{◌∙◌, sym, ap, map, None, arith}
 use Rattle.std.proofs.lemmas.List.{length-map, get_or-map}
-use Rattle.mrs_arena.specs.Paths.{is_outside, end_of}
+use Rattle.mrs_arena.specs.Paths.{is_outside}
 use Rattle.mrs_arena.specs.Inside.{parent_of}
 use Rattle.mrs_arena.proofs.EndLaws.{end_past-start, end_past-all, end_past-outside}
 use Rattle.mrs_arena.proofs.FillLaws.{IsPassed-subtree}

@@ -1,7 +1,7 @@
 use Rattle.std.proofs.Common.{◌-◌, length, map, arith}
 use Rattle.std.proofs.lemmas.List.{length-map}
 use Rattle.mrs_arena.specs.Inside.{parent_of}
-use Rattle.mrs_arena.proofs.NodeLaws.{ancestors-lt}
+use Rattle.mrs_arena.proofs.AlongLaws.{ancestors-lt}
 use Rattle.mrs_arena.proofs.path.is_on_last_path.Goals as goal
 
 pub returns-in-0 : goal.returns-in-0

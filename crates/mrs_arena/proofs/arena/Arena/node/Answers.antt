@@ -1,10 +1,9 @@
-use Rattle.std.proofs.Common.{◌≡◌, ◌∙◌, sym, ap, subst, ℕ, ◌<◌, ◌≤◌, Option, List, length, IfSome, arith}
+use Rattle.std.proofs.Common.{◌≡◌, ◌∙◌, sym, ap, subst, ℕ, ◌<◌, Option, length, IfSome, arith}
 use Rattle.std.proofs.lemmas.List.{length-map}
-use Rattle.mrs_arena.specs.Flat.{FlatNode}
 use Rattle.mrs_arena.specs.Paths.{end_of, IsPreorder, IsSubtree}
 use Rattle.mrs_arena.specs.Nodes.{parents_of}
 use Rattle.mrs_arena.specs.Formed.{AreNodes}
-use Rattle.mrs_arena.specs.Inside.{parent_of, flat_node}
+use Rattle.mrs_arena.specs.Inside.{flat_node}
 use Rattle.mrs_arena.proofs.EndLaws.{end_of-above, end_of-le, end_of-subtree}
 use Rattle.mrs_arena.proofs.NodeLaws.{length-parents_of}
 use Rattle.mrs_arena.proofs.ClosedLaws.{end-at, parent-at}

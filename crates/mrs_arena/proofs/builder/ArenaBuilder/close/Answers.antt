@@ -1,4 +1,4 @@
-use Rattle.std.proofs.Common.{◌≡◌, ◌∙◌, sym, ap, subst, List, map}
+use Rattle.std.proofs.Common.{◌∙◌, sym, ap, subst, List, map}
 use Rattle.mrs_arena.specs.declared.node.Node.{Node}
 use Rattle.mrs_arena.specs.Inside.{flat_nodes, without_end, AreClosed}
 use Rattle.mrs_arena.proofs.ClosedLaws.{AreClosed-from, ended-whole, flat_nodes-ended}

@@ -1,4 +1,4 @@
-use Rattle.std.proofs.Common.{◌≡◌, ◌∙◌, sym, ap, map, Some, slice_get, length, ◌-◌, subst, List}
+use Rattle.std.proofs.Common.{◌∙◌, sym, ap, map, subst, List}
 use Rattle.std.specs.Prelude.{slice_range}
 use Rattle.std.specs.List.{list_any}
 use Rattle.mrs_arena.specs.declared.node.Node.{Node}

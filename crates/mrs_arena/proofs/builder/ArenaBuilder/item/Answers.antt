@@ -1,4 +1,4 @@
-use Rattle.std.proofs.Common.{◌≡◌, ◌∙◌, sym, ap, subst, ℕ, ◌+◌, ◌<◌, ◌-◌, ◌||◌, ◌&&◌, nat_le, ◌++◌, ◌∷◌, [], List, length, cond, false, is_some, slice_set, arith}
+use Rattle.std.proofs.Common.{◌≡◌, ◌∙◌, sym, ap, subst, ◌+◌, ◌<◌, ◌-◌, ◌||◌, ◌&&◌, nat_le, List, length, false, is_some, slice_set, arith}
 use Rattle.std.proofs.lemmas.List.{length-map}
 use Rattle.mrs_arena.specs.Views.{flat_item}
 use Rattle.mrs_arena.specs.Nodes.{last_items, with_item, is_taken}
@@ -47,3 +47,6 @@ pub returns-clause-room : goal.returns-clause-room
 returns-clause-room c =
     ap (λ flat. is_item_refused flat (flat_item c.args.it)) (sym c.self.view_is)
     ∙ is_item_refused-last c.self.inside.nodes.items c.index.result.now c.self.inside.items.items c.self.inside.leaves c.self.inside.aliases c.args.it c.self.invariant (last c) ∙ room c
+
+pub returns-clause-formed : goal.returns-clause-formed
+returns-clause-formed c = (invariant_of-self-2 c).formed

@@ -31,3 +31,6 @@ invariant_of-self-2 c =
     let more_aliases = counted aliases c.from-2.result c.is_alias.result (is_alias c.args.kind) c.from-2.ensures c.is_alias.ensures in
     subst (λ (ns : List Node). AreOpen ns items (leaves + c.from.result) (aliases + c.from-2.result)) (sym c.in_ok-push.ensures.items)
     (AreOpen-push nodes items leaves aliases node (leaves + c.from.result) (aliases + c.from-2.result) c.self.invariant from to named place room more_leaves more_aliases)
+
+pub returns-clause-formed : goal.returns-clause-formed
+returns-clause-formed c = (invariant_of-self-2 c).formed

@@ -1,6 +1,6 @@
 use Rattle.std.proofs.Common.{◌∙◌, sym, ap, bit_and}
 use Rattle.bit_pattern.specs.Digits.{digits_below}
-use Rattle.mrs_arena.proofs.MarkLaws.{unmarked, unmarked-lt, and_inside, chosen_digits-unmarked}
+use Rattle.bit_pattern.proofs.MarkLaws.{unmarked, unmarked-lt, and_inside, chosen_digits-unmarked}
 use Rattle.mrs_arena.proofs.item.Item.fixed.Goals as goal
 
 pub invariant_of-result-clause-mask_fits : goal.invariant_of-result-clause-mask_fits

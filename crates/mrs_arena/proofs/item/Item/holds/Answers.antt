@@ -1,7 +1,7 @@
 use Rattle.std.proofs.Common.{not, map}
-use Rattle.mrs_arena.specs.Marks.{marks_of}
+use Rattle.bit_pattern.specs.Marks.{marks_of}
 use Rattle.bit_pattern.specs.Views.{digits_of}
-use Rattle.mrs_arena.proofs.MarkLaws.{pattern_holds-slice}
+use Rattle.bit_pattern.proofs.MarkLaws.{pattern_holds-slice}
 use Rattle.mrs_arena.proofs.item.Item.holds.Goals as goal
 
 pub returns : goal.returns

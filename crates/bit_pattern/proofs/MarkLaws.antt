@@ -1,8 +1,6 @@
 -- Laws of should-be marks: the digits that are not marked are those of a smaller mask.
-use Rattle.std.proofs.Common.{◌≡◌, ◌∙◌, sym, ap, refl, ℕ, zero, suc, ◌+◌, ◌%◌, ◌<◌, ◌≤◌, ◌^◌, min, bit_and, bit_xor, not, ◌==◌, ◌&&◌, cond, Bool, false, List, [], ◌∷◌, length, map, ◌/◌, arith}
-use Rattle.std.proofs.lemmas.Nat.{and_le_r}
-use Rattle.std.proofs.lemmas.Nat.Bits.{bit_at_and, bit_at_xor, bit_at-lt, bit_at-zero, same_from_bits}
-use Rattle.std.proofs.Math.Pow.{pow_mono}
+use Rattle.std.proofs.Common.{◌≡◌, ◌∙◌, sym, ap, refl, ℕ, zero, suc, ◌+◌, ◌%◌, ◌<◌, ◌^◌, min, bit_and, bit_xor, not, ◌==◌, cond, Bool, List, ◌∷◌, length, map, ◌/◌, arith}
+use Rattle.std.proofs.lemmas.Nat.Bits.{bit_at_and, bit_at_xor, bit_at-lt, same_from_bits}
 use Rattle.spec_bits.specs.Bits.{bit_of, slice}
 use Rattle.spec_bits.specs.Pattern.{Digit, Zero, One, Either, pattern_holds}
 use Rattle.spec_bits.specs.Item.{chosen_digits}
@@ -10,7 +8,11 @@ use Rattle.spec_bits.proofs.PatternLaws.{pattern_holds-mod}
 use Rattle.spec_bits.proofs.ItemLaws.{length-chosen_digits}
 use Rattle.bit_pattern.specs.Digits.{digit_at, digits_below}
 use Rattle.bit_pattern.proofs.DigitLaws.{BitPair, free, fixed_0, fixed_1, BitPair-at, inside_le}
-use Rattle.mrs_arena.specs.Marks.{marks_of}
+use Rattle.bit_pattern.specs.Marks.{marks_of}
+
+pub length-marks_of : (n marks : ℕ) → length (marks_of n marks) ≡ n
+length-marks_of zero marks = refl
+length-marks_of (suc n) marks = ap suc (length-marks_of n marks)
 
 -- the mask's bits that are not marked, as the code has them
 abbrev pub unmarked : ℕ → ℕ → ℕ
