@@ -1,14 +1,15 @@
 -- Laws of walks over an object, an array and members: what comes before a value is read further, and the walk over that value.
 use Rattle.std.proofs.Common.{◌≡◌, ◌∙◌, sym, ap, refl, ℕ, List, [], ◌++◌, Option, Some, None, option_and_then}
 use Rattle.std.specs.Option.{option_or}
-use Rattle.serde_json.specs.Data.{Data, null, boolean, number, string, array, object, Items, Members}
+use Rattle.serde_json.specs.Data.{Data, null, boolean, number, string, array, object, Members}
 use Rattle.serde_json.specs.Find.{get, get_member, as_str}
 use Rattle.spec_json.specs.Pointer.{under}
-use Rattle.spec_json.specs.Event.{Event, first_wrong}
-use Rattle.spec_json.specs.Members.{in_object, in_array, in_text, needed_value, needed, optional_value, optional}
+use Rattle.spec_json.specs.Event.{Event}
+use Rattle.spec_json.specs.Members.{in_object, in_text, needed_value, needed, optional_value, optional}
 use Rattle.spec_instructions.specs.Encodeset.{text_at}
-use Rattle.mrs_schema.specs.Members.{members_of, items_of, nothing, present}
-use Rattle.mrs_schema.proofs.WalkLaws.{first_wrong-append, none-then}
+use Rattle.mrs_schema.specs.Gives.{first_wrong}
+use Rattle.mrs_schema.specs.Members.{members_of, nothing, present}
+use Rattle.mrs_schema.proofs.WalkLaws.{first_wrong-append}
 
 -- what is read of a value that is there
 abbrev pub there : {A : Type 0} → Option A → (A → List Event) → List Event
@@ -32,18 +33,6 @@ first_wrong-in_object_append first second at (number n) = refl
 first_wrong-in_object_append first second at (string s) = refl
 first_wrong-in_object_append first second at (array ds) = refl
 first_wrong-in_object_append first second at (object ms) = first_wrong-append (first at ms) (second at ms)
-
-pub first_wrong-in_array : (read : List ℕ → Items → List Event) (at : List ℕ) (d : Data) → first_wrong (in_array read at d) ≡ option_or (first_wrong (in_array nothing at d)) (first_wrong (read at (items_of d)))
-first_wrong-in_array read at null = refl
-first_wrong-in_array read at (boolean b) = refl
-first_wrong-in_array read at (number n) = refl
-first_wrong-in_array read at (string s) = refl
-first_wrong-in_array read at (array ds) = refl
-first_wrong-in_array read at (object ms) = refl
-
--- the walk over the elements of an array
-pub array_walk : (read : List ℕ → Items → List Event) (at : List ℕ) (d : Data) (ds : Items) → first_wrong (in_array nothing at d) ≡ None → ds ≡ items_of d → first_wrong (in_array read at d) ≡ first_wrong (read at ds)
-array_walk read at d ds is_array is = first_wrong-in_array read at d ∙ none-then (first_wrong (in_array nothing at d)) (first_wrong (read at (items_of d))) is_array ∙ ap (λ es. first_wrong (read at es)) (sym is)
 
 pub get-members_of : (key : List ℕ) (d : Data) → get key d ≡ get_member key (members_of d)
 get-members_of key null = refl
@@ -88,9 +77,6 @@ first_wrong-optional_value key read at (Some (object ms)) = refl
 
 pub optional-there : (key : List ℕ) (read : List ℕ → Data → List Event) (at : List ℕ) (d : Data) → optional key read at (members_of d) ≡ there (present (get key d)) (read (under at key))
 optional-there key read at d = first_wrong-optional_value key read at (get_member key (members_of d)) ∙ ap (λ o. there (present o) (read (under at key))) (sym (get-members_of key d))
-
-pub optional-present : (key : List ℕ) (read : List ℕ → Data → List Event) (at : List ℕ) (d e : Data) → present (get key d) ≡ Some e → first_wrong (optional key read at (members_of d)) ≡ first_wrong (read (under at key) e)
-optional-present key read at d e h = ap first_wrong (optional-there key read at d ∙ ap (λ o. there o (read (under at key))) h)
 
 -- a member that is there and not null
 pub present-Some : (o : Option Data) (d : Data) → present o ≡ Some d → o ≡ Some d

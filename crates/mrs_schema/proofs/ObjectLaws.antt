@@ -1,5 +1,5 @@
--- The walks over the objects of an Instructions document, part by part.
-use Rattle.std.proofs.Common.{◌≡◌, ◌∙◌, sym, ap, refl, ℕ, Bool, List, [], ◌++◌, Option, Some, None, option_and_then}
+-- First faults of the walks over the objects of an Instructions document, part by part.
+use Rattle.std.proofs.Common.{◌≡◌, ◌∙◌, ap, refl, ℕ, Bool, List, [], ◌∷◌, ◌++◌, Option, Some, None, option_and_then}
 use Rattle.std.specs.Prelude.{codes, is_some}
 use Rattle.std.specs.Option.{option_or}
 use Rattle.std.specs.Str.{bytes_eq}
@@ -7,12 +7,13 @@ use Rattle.serde_json.specs.Data.{Data, null, boolean, number, string, array, ob
 use Rattle.serde_json.specs.Find.{get}
 use Rattle.spec_bits.specs.PatternText.{pattern_in}
 use Rattle.spec_json.specs.Pointer.{under}
-use Rattle.spec_json.specs.Event.{Event, UnlistedKind, NotYet, first_wrong}
-use Rattle.spec_json.specs.Members.{in_object, in_array, in_text, needed, optional, typed, unless, wrong}
-use Rattle.spec_instructions.specs.Kind.{Kind, Set, Group, Leaf, Alias, Instance}
-use Rattle.spec_instructions.specs.Encodeset.{value_events, pattern_events, text_at, range_events, range_and_value, mask_events, width_of, item_kind_named, item_kind, item_parts, item_events, items_events, width_events, encodeset_events}
+use Rattle.spec_json.specs.Event.{Event, UnlistedKind}
+use Rattle.spec_json.specs.Members.{in_object, in_text, needed, typed, unless}
+use Rattle.spec_instructions.specs.Kind.{Set, kind_named}
+use Rattle.spec_instructions.specs.Encodeset.{value_events, pattern_events, text_at, range_events, range_and_value, mask_events, width_of, width_events}
 use Rattle.spec_instructions.specs.EncodesetItems.{text_digits, digits_at}
-use Rattle.spec_instructions.specs.Walk.{name_events, counted, own_events}
+use Rattle.spec_instructions.specs.Walk.{set_name_events}
+use Rattle.mrs_schema.specs.Gives.{first_wrong}
 use Rattle.mrs_schema.specs.Members.{members_of, nothing, present}
 use Rattle.mrs_schema.proofs.WalkLaws.{first_wrong-append}
 use Rattle.mrs_schema.proofs.MemberLaws.{there, first_wrong-in_object, first_wrong-in_object_append, first_wrong-needed, first_wrong-needed_text, present-Some}
@@ -53,20 +54,14 @@ bits_walk at d ms =
 pub digits_at-there : (key : List ℕ) (d e : Data) → present (get key d) ≡ Some e → digits_at key d ≡ text_digits (text_at (codes "value") e)
 digits_at-there key d e h = ap (λ o. text_digits (option_and_then (text_at (codes "value")) o)) (present-Some (get key d) e h)
 
-pub item_walk : (earlier : List (List ℕ)) (at : List ℕ) (d : Data) → first_wrong (item_events earlier at d)
-    ≡ option_or (first_wrong (in_object (typed (λ s. is_some (item_kind_named s))) at d)) (first_wrong (item_parts earlier at d (members_of d) (item_kind d)))
-item_walk earlier at d = first_wrong-in_object_append (typed (λ s. is_some (item_kind_named s))) (λ place ms. item_parts earlier place d ms (item_kind d)) at d
-
-pub encodeset_walk : (at : List ℕ) (d : Data) → first_wrong (encodeset_events at d)
-    ≡ option_or (first_wrong (in_object nothing at d)) (option_or (first_wrong (typed (bytes_eq (codes "Instruction.Encodeset.Encodeset")) at (members_of d))) (option_or (first_wrong (needed (codes "width") width_events at (members_of d)))
-    (option_or (first_wrong (needed (codes "values") nothing at (members_of d))) (first_wrong (there (get (codes "values") d) (in_array (λ place ds. items_events place 0 [] ds) (under at (codes "values"))))))))
-encodeset_walk at d =
+-- an encodeset up to its items
+pub encodeset_front : (at : List ℕ) (d : Data) → first_wrong (in_object (λ place ms. typed (bytes_eq (codes "Instruction.Encodeset.Encodeset")) place ms ++ (needed (codes "width") width_events place ms ++ needed (codes "values") nothing place ms)) at d)
+    ≡ option_or (first_wrong (in_object nothing at d)) (option_or (first_wrong (typed (bytes_eq (codes "Instruction.Encodeset.Encodeset")) at (members_of d))) (option_or (first_wrong (needed (codes "width") width_events at (members_of d))) (first_wrong (needed (codes "values") nothing at (members_of d)))))
+encodeset_front at d =
     first_wrong-in_object (λ place ms. kind place ms ++ (width place ms ++ values place ms)) at d
     ∙ ap (λ o. option_or (first_wrong (in_object nothing at d)) o)
     (first_wrong-append (kind at (members_of d)) (width at (members_of d) ++ values at (members_of d))
-    ∙ ap (λ o. option_or (first_wrong (kind at (members_of d))) o)
-    (first_wrong-append (width at (members_of d)) (values at (members_of d))
-    ∙ ap (λ o. option_or (first_wrong (width at (members_of d))) o) (first_wrong-needed (codes "values") (in_array (λ place ds. items_events place 0 [] ds)) at d)))
+    ∙ ap (λ o. option_or (first_wrong (kind at (members_of d))) o) (first_wrong-append (width at (members_of d)) (values at (members_of d))))
   where
     kind : List ℕ → Members → List Event
     kind place ms = typed (bytes_eq (codes "Instruction.Encodeset.Encodeset")) place ms
@@ -75,32 +70,13 @@ encodeset_walk at d =
     width place ms = needed (codes "width") width_events place ms
 
     values : List ℕ → Members → List Event
-    values place ms = needed (codes "values") (in_array (λ list_place ds. items_events list_place 0 [] ds)) place ms
+    values place ms = needed (codes "values") nothing place ms
 
--- what a node says of itself: what is counted is no fault
-first_wrong-counted : (kind : Kind) (at : List ℕ) (es : List Event) → first_wrong (counted kind at ++ es) ≡ first_wrong es
-first_wrong-counted Set at es = refl
-first_wrong-counted Group at es = refl
-first_wrong-counted Leaf at es = refl
-first_wrong-counted Alias at es = refl
-first_wrong-counted Instance at es = refl
+-- a set up to what it holds
+pub set_front : (isa : List ℕ) (found : Bool) (at : List ℕ) (d : Data) → first_wrong (in_object (λ place ms. typed (λ s. is_some (kind_named (Set ∷ []) s)) place ms ++ needed (codes "name") (in_text (set_name_events isa found)) place ms) at d)
+    ≡ option_or (first_wrong (in_object (typed (λ s. is_some (kind_named (Set ∷ []) s))) at d)) (first_wrong (needed (codes "name") (in_text (set_name_events isa found)) at (members_of d)))
+set_front isa found at d = first_wrong-in_object_append (typed (λ s. is_some (kind_named (Set ∷ []) s))) (needed (codes "name") (in_text (set_name_events isa found))) at d
 
-own_walk_of : (kind : Kind) (at : List ℕ) (ms : Members) → first_wrong (own_events kind at ms)
-    ≡ option_or (first_wrong (needed (codes "name") (in_text (name_events at)) at ms)) (option_or (first_wrong (optional (codes "encoding") encodeset_events at ms)) (first_wrong (optional (codes "condition") (λ place d. wrong place NotYet) at ms)))
-own_walk_of kind at ms =
-    first_wrong-append (needed (codes "name") (in_text (name_events at)) at ms) (counted kind at ++ (encoding ++ condition))
-    ∙ ap (λ o. option_or (first_wrong (needed (codes "name") (in_text (name_events at)) at ms)) o) (first_wrong-counted kind at (encoding ++ condition) ∙ first_wrong-append encoding condition)
-  where
-    encoding : List Event
-    encoding = optional (codes "encoding") encodeset_events at ms
-
-    condition : List Event
-    condition = optional (codes "condition") (λ place d. wrong place NotYet) at ms
-
-pub own_walk : (at : List ℕ) (ms : Members) → first_wrong (own_events Group at ms)
-    ≡ option_or (first_wrong (needed (codes "name") (in_text (name_events at)) at ms)) (option_or (first_wrong (optional (codes "encoding") encodeset_events at ms)) (first_wrong (optional (codes "condition") (λ place d. wrong place NotYet) at ms)))
-own_walk at ms = own_walk_of Group at ms
-
--- the same for each kind
-pub own_events-kind : (kind : Kind) (at : List ℕ) (ms : Members) → first_wrong (own_events kind at ms) ≡ first_wrong (own_events Group at ms)
-own_events-kind kind at ms = own_walk_of kind at ms ∙ sym (own_walk_of Group at ms)
+-- a document up to its sets
+pub document_front : (at : List ℕ) (d : Data) → first_wrong (in_object (needed (codes "instructions") nothing) at d) ≡ option_or (first_wrong (in_object nothing at d)) (first_wrong (needed (codes "instructions") nothing at (members_of d)))
+document_front at d = first_wrong-in_object (needed (codes "instructions") nothing) at d

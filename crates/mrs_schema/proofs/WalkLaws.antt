@@ -1,9 +1,9 @@
--- Laws of first faults, and of answers that give them.
-use Rattle.std.proofs.Common.{◌≡◌, ap, refl, subst, sym, List, [], ◌∷◌, ◌++◌, Option, None, Result, Ok, Err}
+-- Laws of walks in a row: their first faults, and what they make of the counts.
+use Rattle.std.proofs.Common.{◌≡◌, ◌∙◌, sym, ap, refl, subst, List, [], ◌∷◌, ◌++◌, Option, Some, None, Result, Ok, Err}
 use Rattle.std.specs.Option.{option_or}
-use Rattle.std.specs.Result.{IsErrAnd}
-use Rattle.spec_json.specs.Event.{Event, Name, OneMore, Wrong, Fault, first_wrong}
-use Rattle.mrs_schema.specs.Gives.{Fails, Gives}
+use Rattle.spec_json.specs.Event.{Event, Name, OneMore, Wrong, Fault}
+use Rattle.spec_json.specs.Limits.{Counts, after, ◌>>=◌, judged}
+use Rattle.mrs_schema.specs.Gives.{first_wrong, Fails}
 use Rattle.mrs_schema.specs.declared.fault.ReadFault.{ReadFault}
 use Rattle.mrs_schema.specs.declared.fault.ReadFault.TheVariants.{Schema, NoMemory}
 
@@ -18,9 +18,6 @@ pub Fails-first : (e : ReadFault) (a b : Option Fault) → Fails e a → Fails e
 Fails-first (Schema f) a b h = ap (λ o. option_or o b) h
 Fails-first NoMemory a b h = tt
 
-pub Fails-then : (e : ReadFault) (a b : Option Fault) → a ≡ None → Fails e b → Fails e (option_or a b)
-Fails-then e a b none h = subst (λ (o : Option Fault). Fails e (option_or o b)) (sym none) h
-
 -- a walk with the same first fault
 pub Fails-same : (e : ReadFault) (a b : Option Fault) → b ≡ a → Fails e a → Fails e b
 Fails-same e a b is h = subst (λ (o : Option Fault). Fails e o) (sym is) h
@@ -29,18 +26,38 @@ Fails-same e a b is h = subst (λ (o : Option Fault). Fails e o) (sym is) h
 pub none-then : (a b : Option Fault) → a ≡ None → option_or a b ≡ b
 none-then a b none = ap (λ o. option_or o b) none
 
--- ---- answers
+-- ---- counts
 
--- the exit of a `?`
-pub Gives-exit : {T : Type 0} (r : Result T ReadFault) (e : ReadFault) (a : Option Fault) (P : T → Type 0) → IsErrAnd r (λ y. y ≡ e) → Fails e a → Gives r a P
-Gives-exit (Ok x) e a P h f = absurd h
-Gives-exit (Err y) e a P h f = subst (λ (z : ReadFault). Fails z a) (sym h) f
+further : (r : Result Counts Fault) (f g h : Counts → Result Counts Fault) → ((c : Counts) → h c ≡ f c >>= g) → r >>= h ≡ r >>= f >>= g
+further (Ok c) f g h is = is c
+further (Err e) f g h is = refl
 
--- a walk with the same first fault
-pub Gives-same : {T : Type 0} (r : Result T ReadFault) (a b : Option Fault) (P : T → Type 0) → b ≡ a → Gives r a P → Gives r b P
-Gives-same r a b P e h = subst (λ (o : Option Fault). Gives r o P) (sym e) h
+-- two walks in a row: the second goes on where the first ends
+pub judged-append : (xs ys : List Event) (c : Counts) → judged (xs ++ ys) c ≡ judged xs c >>= judged ys
+judged-append [] ys c = refl
+judged-append (e ∷ xs) ys c = further (after e c) (judged xs) (judged ys) (judged (xs ++ ys)) (judged-append xs ys)
 
--- a weaker property
-pub Gives-weaker : {T : Type 0} (r : Result T ReadFault) (a : Option Fault) (P Q : T → Type 0) → ((x : T) → P x → Q x) → Gives r a P → Gives r a Q
-Gives-weaker (Ok x) a P Q f h = (h.0, f x h.1)
-Gives-weaker (Err e) a P Q f h = h
+-- a fault, or else what comes after
+abbrev pub fails_or : Option Fault → Result Counts Fault → Result Counts Fault
+fails_or None r = r
+fails_or (Some f) r = Err f
+
+pub fails_or-or : (a b : Option Fault) (r : Result Counts Fault) → fails_or a (fails_or b r) ≡ fails_or (option_or a b) r
+fails_or-or None b r = refl
+fails_or-or (Some f) b r = refl
+
+-- a walk that puts and counts nothing
+abbrev pub IsPlain : List Event → Type 0
+IsPlain es = (c : Counts) → judged es c ≡ fails_or (first_wrong es) (Ok c)
+
+fails_or-then : (o : Option Fault) (c : Counts) (f : Counts → Result Counts Fault) → fails_or o (Ok c) >>= f ≡ fails_or o (f c)
+fails_or-then None c f = refl
+fails_or-then (Some e) c f = refl
+
+-- behind a plain walk the next one begins with the same counts
+pub judged-plain : (xs ys : List Event) → IsPlain xs → (c : Counts) → judged (xs ++ ys) c ≡ fails_or (first_wrong xs) (judged ys c)
+judged-plain xs ys plain c = judged-append xs ys c ∙ ap (λ r. r >>= judged ys) (plain c) ∙ fails_or-then (first_wrong xs) c (judged ys)
+
+-- a walk that passes, and the one behind it
+pub judged-next : (xs ys : List Event) (c d : Counts) → judged xs c ≡ Ok d → judged (xs ++ ys) c ≡ judged ys d
+judged-next xs ys c d h = judged-append xs ys c ∙ ap (λ r. r >>= judged ys) h

@@ -3,7 +3,7 @@ use Rattle.bit_pattern.specs.Views.{refusal_of}
 use Rattle.spec_json.specs.Event as event
 use Rattle.spec_json.specs.Event.{Fault}
 use Rattle.mrs_schema.specs.declared.fault.Why.{Why}
-use Rattle.mrs_schema.specs.declared.fault.Why.TheVariants.{Missing, UnlistedKind, WrongShape, BadPattern, BadRange, BadName, Doubled, NoSet, NotYet}
+use Rattle.mrs_schema.specs.declared.fault.Why.TheVariants.{Missing, UnlistedKind, WrongShape, BadPattern, BadRange, BadName, Doubled, TooMany, NoSet, NotYet}
 use Rattle.mrs_schema.specs.declared.fault.SchemaFault.{SchemaFault}
 
 abbrev pub why_of : Why → event.Why
@@ -14,6 +14,7 @@ why_of (BadPattern fault) = event.BadPattern (refusal_of fault)
 why_of BadRange = event.BadRange
 why_of BadName = event.BadName
 why_of Doubled = event.Doubled
+why_of TooMany = event.TooMany
 why_of NoSet = event.NoSet
 why_of NotYet = event.NotYet
 

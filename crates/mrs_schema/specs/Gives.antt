@@ -1,14 +1,21 @@
--- What a reader says of a walk, unless memory runs out.
-use Rattle.std.specs.Prelude.{◌≡◌, ℕ, List, Option, Some, None, Result, Ok, Err, ⊤}
+-- What a reader that puts nothing says of a walk, unless memory runs out.
+use Rattle.std.specs.Prelude.{◌≡◌, ℕ, List, [], ◌∷◌, Option, Some, None, Result, Ok, Err, ⊤}
 use Rattle.serde_json.specs.Data.{Data}
 use Rattle.serde_json.specs.View.{view}
 use Rattle.serde_json.specs.declared.value.Value.{Value}
-use Rattle.spec_json.specs.Event.{Event, Fault, first_wrong}
+use Rattle.spec_json.specs.Event.{Event, Name, OneMore, Wrong, Fault}
 use Rattle.mrs_schema.specs.Faults.{fault_of}
 use Rattle.mrs_schema.specs.Pointers.{pointer}
 use Rattle.mrs_schema.specs.declared.fault.ReadFault.{ReadFault}
 use Rattle.mrs_schema.specs.declared.fault.ReadFault.TheVariants.{Schema, NoMemory}
 use Rattle.mrs_schema.specs.declared.place.Place.{Place}
+
+-- the first event that is a fault
+abbrev pub first_wrong : List Event → Option Fault
+first_wrong [] = None
+first_wrong (Name at text ∷ es) = first_wrong es
+first_wrong (OneMore thing at ∷ es) = first_wrong es
+first_wrong (Wrong f ∷ es) = Some f
 
 -- a refusal is the first fault
 abbrev pub Fails : ReadFault → Option Fault → Type 0

@@ -1,9 +1,10 @@
-pub mod Flattened
 pub mod Pointers
 pub mod Faults
 pub mod Gives
 pub mod Members
 pub mod Kinds
-pub mod ShouldBe
 pub mod Items
-pub mod Leaves
+pub mod Children
+pub mod Drafted
+pub mod Above
+pub mod Release

@@ -1,37 +1,60 @@
 //! Reads the items of an encodeset.
 
-ghost use Rattle.std.specs.Prelude.{◌≡◌, ◌≤◌, ◌++◌, [], ◌∷◌, Some, codes, drop, length, ⊤};
-ghost use Rattle.spec_json.specs.Members.{in_array, needed};
-ghost use Rattle.spec_instructions.specs.Encodeset.{width_events, item_events, items_events, encodeset_events};
-ghost use Rattle.spec_instructions.specs.EncodesetItems.{item_in, items_of_array, encodeset_items};
+ghost use Rattle.std.specs.Prelude.{◌≡◌, ◌<◌, ◌++◌, [], ◌∷◌, Some, bytes_eq, codes, length, ⊤};
+ghost use Rattle.serde_json.specs.Find.{get};
+ghost use Rattle.serde_json.specs.View.{view};
+ghost use Rattle.spec_json.specs.Members.{in_object, in_array, needed, typed};
+ghost use Rattle.spec_instructions.specs.Encodeset.{width_events, items_events, encodeset_events};
+ghost use Rattle.spec_instructions.specs.EncodesetItems.{items_of_array, encodeset_items};
+ghost use Rattle.mrs_names.specs.Texts.{IsExtended};
+ghost use Rattle.mrs_schema.specs.Drafted.{Steps, last_items, last_named, with_items};
 ghost use Rattle.mrs_schema.specs.Gives.{Reads};
-ghost use Rattle.mrs_schema.specs.Items.{names_of};
-ghost use Rattle.mrs_schema.specs.Members.{members_of};
+ghost use Rattle.mrs_schema.specs.Members.{members_of, nothing};
+ghost use Rattle.mrs_schema.specs.Pointers.{pointer};
 
+use crate::draft::Draft;
 use crate::fault::{ReadFault, Why};
-use crate::item::Item;
 use crate::item_reader::read_item;
 use crate::members::{array, exact_kind, fault_at, needed, object};
 use crate::place::Place;
 use serde_json::Value;
 use std::alloc::Global;
 
-/// An encodeset, whose items go behind those of `items`.
-#[tactic(auto, using(crate::proofs::ObjectLaws::encodeset_walk))]
+/// An encodeset, whose items are put at the last node, which has none.
+#[tactic(auto, using(crate::proofs::KeptLaws::kept))]
 pub(crate) fn read_encodeset(
     alloc: Global,
     value: &Value,
     place: &Place<'_>,
-    items: &mut Vec<Item>,
+    draft: &mut Draft,
 ) -> Result<(), ReadFault>
-    ensures { Reads result place.now value.now encodeset_events
-        (λ d _. items.new.items ≡ items.old.items ++ encodeset_items (Some d)) }
+    requires some { 0 < length draft.old.nodes }
+    requires bare { last_items draft.old.nodes ≡ [] }
+    ensures steps { Steps result draft.old draft.new
+        (encodeset_events (last_named draft.old.nodes) (pointer place.now) (view value.now))
+        (λ _. draft.new.nodes ≡ with_items (encodeset_items (Some (view value.now))) draft.old.nodes) }
+    ensures kept { IsExtended draft.old.names draft.new.names }
+{
+    let values = encodeset_values(alloc, value, place)?;
+    read_items(alloc, values, &Place::Member(place, "values"), draft)
+}
+
+/// The member `values` of an encodeset.
+#[tactic(auto, using(crate::proofs::ObjectLaws::encodeset_front))]
+fn encodeset_values<'v>(
+    alloc: Global,
+    value: &'v Value,
+    place: &Place<'_>,
+) -> Result<&'v Value, ReadFault>
+    ensures { Reads result place.now value.now
+        (in_object (λ place ms. typed (bytes_eq (codes "Instruction.Encodeset.Encodeset")) place ms
+        ++ (needed (codes "width") width_events place ms ++ needed (codes "values") nothing place ms)))
+        (λ d values. get (codes "values") d ≡ Some (view values.now)) }
 {
     object(alloc, value, place)?;
     exact_kind(alloc, value, place, "Instruction.Encodeset.Encodeset")?;
     read_width(alloc, value, place)?;
-    let values = needed(alloc, value, place, "values")?;
-    read_items(alloc, values, &Place::Member(place, "values"), items)
+    needed(alloc, value, place, "values")
 }
 
 /// The member `width` is 32.
@@ -47,36 +70,23 @@ fn read_width(alloc: Global, value: &Value, place: &Place<'_>) -> Result<(), Rea
 }
 
 /// An array of items, each of which knows the names of the fields before it.
+#[tactic(auto, using(crate::proofs::KeptLaws::kept))]
 fn read_items(
     alloc: Global,
     value: &Value,
     place: &Place<'_>,
-    items: &mut Vec<Item>,
+    draft: &mut Draft,
 ) -> Result<(), ReadFault>
-    ensures { Reads result place.now value.now (in_array (λ at ds. items_events at 0 [] ds))
-        (λ d _. items.new.items ≡ items.old.items ++ items_of_array (Some d)) }
+    requires some { 0 < length draft.old.nodes }
+    requires bare { last_items draft.old.nodes ≡ [] }
+    ensures steps { Steps result draft.old draft.new
+        (in_array (λ at ds. items_events (last_named draft.old.nodes) at 0 [] ds) (pointer place.now) (view value.now))
+        (λ _. draft.new.nodes ≡ with_items (items_of_array (Some (view value.now))) draft.old.nodes) }
+    ensures kept { IsExtended draft.old.names draft.new.names }
 {
     let values = array(alloc, value, place)?;
-    let before = items.len();
     for (i, element) in values.iter().enumerate() {
-        push_item(alloc, element, &Place::Element(&*place, i), items, before)?;
+        read_item(alloc, element, &Place::Element(&*place, i), draft)?;
     }
-    Ok(())
-}
-
-/// One more item of the encodeset whose items stand from place `before` of `items` on.
-fn push_item(
-    alloc: Global,
-    value: &Value,
-    place: &Place<'_>,
-    items: &mut Vec<Item>,
-    before: usize,
-) -> Result<(), ReadFault>
-    requires { before ≤ length items.old.items }
-    ensures { Reads result place.now value.now (item_events (names_of (drop before items.old.items)))
-        (λ d _. items.new.items ≡ items.old.items ++ item_in d ∷ []) }
-{
-    let it = read_item(alloc, value, place, &items[before..])?;
-    items.push(it)?;
     Ok(())
 }

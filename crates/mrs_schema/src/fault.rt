@@ -9,8 +9,8 @@ use bit_pattern::PatternFault;
 use std::alloc::{AllocError, AllocFailed};
 
 /// What is wrong at a place of a document.
-#[derive(Drop)]
-pub(crate) enum Why {
+#[derive(Drop, PartialEq, Eq, Debug)]
+pub enum Why {
     /// A member of that name is needed, and the object lacks it.
     Missing(Text),
     /// The place does not list the object's `_type`.
@@ -25,6 +25,8 @@ pub(crate) enum Why {
     BadName,
     /// A second chosen set, or two fields of one name in an encodeset.
     Doubled,
+    /// One more name, node, leaf, item of an encodeset or named item of a path than there may be.
+    TooMany,
     /// No set has the chosen name.
     NoSet,
     /// A condition or an alias, which no reader reads yet.
@@ -32,16 +34,18 @@ pub(crate) enum Why {
 }
 
 /// The first fault of a document: the JSON Pointer (RFC 6901) of its place, and the reason.
-#[derive(Drop)]
-pub(crate) struct SchemaFault {
+#[derive(Drop, PartialEq, Eq, Debug)]
+pub struct SchemaFault {
     pub path: Text,
     pub why: Why,
 }
 
 /// Why a reader gave no value.
-#[derive(Drop)]
-pub(crate) enum ReadFault {
+#[derive(Drop, PartialEq, Eq, Debug)]
+pub enum ReadFault {
+    /// The document leaves the profile, first here.
     Schema(SchemaFault),
+    /// No memory was left.
     NoMemory,
 }
 

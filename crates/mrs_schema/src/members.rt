@@ -3,8 +3,9 @@
 ghost use Rattle.std.specs.Prelude.{◌≡◌, Some, option_map, bytes_eq, codes, ⊤};
 ghost use Rattle.serde_json.specs.Find.{get, as_str};
 ghost use Rattle.serde_json.specs.View.{view, items_view};
-ghost use Rattle.spec_json.specs.Members.{in_object, in_array, in_text, needed, typed};
+ghost use Rattle.spec_json.specs.Members.{in_object, in_array, in_text, needed, optional, typed};
 ghost use Rattle.spec_instructions.specs.Encodeset.{text_at};
+ghost use Rattle.mrs_schema.specs.Children.{children_of};
 ghost use Rattle.mrs_schema.specs.Faults.{why_of};
 ghost use Rattle.mrs_schema.specs.Gives.{Fails, Reads};
 ghost use Rattle.mrs_schema.specs.Members.{members_of, items_of, nothing, present};
@@ -92,6 +93,25 @@ pub(crate) fn optional<'v>(value: &'v Value, key: &str) -> Option<&'v Value>
     match value.get(key) {
         Some(member) if !member.is_null() => Some(member),
         _ => None,
+    }
+}
+
+/// The elements of the member `children`, which are none where it is absent or null.
+pub(crate) fn child_values<'v>(
+    alloc: Global,
+    value: &'v Value,
+    place: &Place<'_>,
+) -> Result<&'v [Value], ReadFault>
+    ensures { Reads result place.now value.now
+        (λ at d. optional (codes "children") (in_array nothing) at (members_of d))
+        (λ d list. items_view list.now ≡ children_of d) }
+{
+    match optional(value, "children") {
+        None => Ok(&[]),
+        Some(children) => {
+            let list = array(alloc, children, &Place::Member(place, "children"))?;
+            Ok(list.as_slice())
+        }
     }
 }
 

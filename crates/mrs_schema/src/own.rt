@@ -1,74 +1,80 @@
-//! Reads what a node says of itself.
+//! Reads what a node says of itself, and puts the node.
 
-ghost use Rattle.std.specs.Prelude.{◌≡◌, ◌++◌, Some, codes, ⊤};
+ghost use Rattle.std.specs.Prelude.{◌≡◌, ◌++◌, ◌<◌, [], ◌∷◌, Some, codes, length, option_map, ⊤};
 ghost use Rattle.serde_json.specs.Find.{get};
+ghost use Rattle.serde_json.specs.View.{view};
 ghost use Rattle.spec_json.specs.Event.{NotYet};
-ghost use Rattle.spec_json.specs.Members.{wrong, in_text, needed, optional};
-ghost use Rattle.spec_instructions.specs.Kind.{Group};
-ghost use Rattle.spec_instructions.specs.Encodeset.{text_at, encodeset_events};
+ghost use Rattle.spec_json.specs.Members.{wrong, optional};
+ghost use Rattle.spec_instructions.specs.Encodeset.{encodeset_events};
 ghost use Rattle.spec_instructions.specs.EncodesetItems.{encodeset_items};
-ghost use Rattle.spec_instructions.specs.Walk.{name_events, own_events};
+ghost use Rattle.spec_instructions.specs.Walk.{own_events};
+ghost use Rattle.spec_instructions.specs.Tree.{own_of};
+ghost use Rattle.mrs_names.specs.Texts.{IsExtended};
+ghost use Rattle.mrs_arena.specs.Paths.{IsPlace};
+ghost use Rattle.mrs_arena.specs.Placed.{kind_of};
+ghost use Rattle.mrs_schema.specs.Above.{named_above};
+ghost use Rattle.mrs_schema.specs.Drafted.{Steps, parents, last_items, last_named, with_items};
 ghost use Rattle.mrs_schema.specs.Gives.{Reads};
 ghost use Rattle.mrs_schema.specs.Members.{members_of};
+ghost use Rattle.mrs_schema.specs.Pointers.{pointer};
 
+use crate::draft::Draft;
 use crate::encodeset::read_encodeset;
 use crate::fault::{ReadFault, Why};
-use crate::item::Item;
-use crate::limits::is_name;
-use crate::members::{fault_at, needed, optional, text};
+use crate::members::{fault_at, optional};
+use crate::node_name::read_name;
 use crate::place::Place;
+use mrs_arena::{Kind, NodeId};
 use serde_json::Value;
 use std::alloc::Global;
 
-/// The name of a set, a group or a leaf, whose own items go behind those of `items`.
-#[tactic(auto, using(crate::proofs::ObjectLaws::own_walk))]
-pub(crate) fn read_own<'v>(
+/// A set, a group or a leaf below a node, or alone, which is put with the items of its encodeset.
+#[tactic(auto, using(crate::proofs::KeptLaws::kept))]
+pub(crate) fn read_own(
     alloc: Global,
-    value: &'v Value,
+    value: &Value,
     place: &Place<'_>,
-    items: &mut Vec<Item>,
-) -> Result<&'v str, ReadFault>
-    ensures { Reads result place.now value.now (λ at d. own_events Group at (members_of d))
-        (λ d name. (text_at (codes "name") d ≡ Some name.now)
-        × (items.new.items ≡ items.old.items ++ encodeset_items (get (codes "encoding") d))) }
+    kind: Kind,
+    parent: Option<NodeId>,
+    draft: &mut Draft,
+) -> Result<NodeId, ReadFault>
+    requires { IsPlace (parents draft.old.nodes) (option_map (λ p. p.0) parent) }
+    ensures steps { Steps result draft.old draft.new
+        (own_events (kind_of kind) (named_above draft.old.nodes (option_map (λ p. p.0) parent))
+        (pointer place.now) (members_of (view value.now)))
+        (λ id. (id.0 ≡ length draft.old.nodes)
+        × (draft.new.nodes ≡ draft.old.nodes ++ record {
+          parent = option_map (λ p. p.0) parent;
+          own = own_of (kind_of kind) (view value.now);
+        } ∷ [])) }
+    ensures kept { IsExtended draft.old.names draft.new.names }
 {
-    match read_name(alloc, value, place) {
-        Ok(name) => {
-            read_encoding(alloc, value, place, items)?;
-            refuse_condition(alloc, value, place)?;
-            Ok(name)
-        }
-        Err(fault) => Err(fault),
-    }
+    let name = read_name(alloc, value, place, draft)?;
+    let node = draft.node(alloc, kind, name, parent, place)?;
+    read_encoding(alloc, value, place, draft)?;
+    refuse_condition(alloc, value, place)?;
+    Ok(node)
 }
 
-fn read_name<'v>(alloc: Global, value: &'v Value, place: &Place<'_>) -> Result<&'v str, ReadFault>
-    ensures { Reads result place.now value.now
-        (λ at d. needed (codes "name") (in_text (name_events at)) at (members_of d))
-        (λ d name. text_at (codes "name") d ≡ Some name.now) }
-{
-    let named = needed(alloc, value, place, "name")?;
-    let place = Place::Member(place, "name");
-    match text(alloc, named, &place) {
-        Ok(text) if is_name(text) => Ok(text),
-        Ok(_) => Err(fault_at(alloc, &place, Why::BadName)),
-        Err(fault) => Err(fault),
-    }
-}
-
+/// The encodeset of the last node, if it has one.
+#[tactic(auto, using(crate::proofs::KeptLaws::kept))]
 fn read_encoding(
     alloc: Global,
     value: &Value,
     place: &Place<'_>,
-    items: &mut Vec<Item>,
+    draft: &mut Draft,
 ) -> Result<(), ReadFault>
-    ensures { Reads result place.now value.now
-        (λ at d. optional (codes "encoding") encodeset_events at (members_of d))
-        (λ d _. items.new.items ≡ items.old.items ++ encodeset_items (get (codes "encoding") d)) }
+    requires some { 0 < length draft.old.nodes }
+    requires bare { last_items draft.old.nodes ≡ [] }
+    ensures steps { Steps result draft.old draft.new
+        (optional (codes "encoding") (encodeset_events (last_named draft.old.nodes)) (pointer place.now)
+        (members_of (view value.now)))
+        (λ _. draft.new.nodes ≡ with_items (encodeset_items (get (codes "encoding") (view value.now))) draft.old.nodes) }
+    ensures kept { IsExtended draft.old.names draft.new.names }
 {
     match optional(value, "encoding") {
         None => Ok(()),
-        Some(set) => read_encodeset(alloc, set, &Place::Member(place, "encoding"), items),
+        Some(set) => read_encodeset(alloc, set, &Place::Member(place, "encoding"), draft),
     }
 }
 

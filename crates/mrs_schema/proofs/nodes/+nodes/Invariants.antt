@@ -3,7 +3,7 @@ use Rattle.serde_json.specs.Data.{depth}
 use Rattle.serde_json.specs.View.{view}
 use Rattle.spec_json.specs.Pointer.{under}
 use Rattle.mrs_schema.specs.Pointers.{pointer}
-use Rattle.mrs_schema.proofs.NodeLaws.{ChildrenRead}
+use Rattle.mrs_schema.proofs.NodeLoop.{ChildrenRead}
 use Rattle.mrs_schema.proofs.nodes.+nodes.Given as goal
 
 abbrev pub decreases-read_child : goal.decreases-read_child
@@ -16,4 +16,4 @@ abbrev pub decreases-read_children : goal.decreases-read_children
 decreases-read_children l = 3 * depth (view l.value.now)
 
 abbrev pub invariant-read_children-loop-i : goal.invariant-read_children-loop-i
-invariant-read_children-loop-i l = ChildrenRead (under (pointer l.fn.place) (codes "children")) l.fn.above.items l.above.items l.fn.plain l.plain l.i l.children
+invariant-read_children-loop-i l = ChildrenRead (under (pointer l.fn.place) (codes "children")) l.parent.0 l.fn.draft l.draft l.i l.children

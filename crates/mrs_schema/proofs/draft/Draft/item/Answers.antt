@@ -1,0 +1,56 @@
+use Rattle.std.proofs.Common.{◌≡◌, ◌∙◌, sym, ap, subst, ◌+◌, ◌<◌, false, List, [], ◌∷◌, length, map, option_to_list, IfSome, bytes_eq, Ok, Err, arith}
+use Rattle.std.proofs.lemmas.List.{length-map}
+use Rattle.std.specs.List.{list_any}
+use Rattle.spec_json.specs.Event.{TooMany}
+use Rattle.spec_json.specs.Limits.{judged}
+use Rattle.spec_instructions.specs.Encodeset.{within_limits}
+use Rattle.mrs_arena.specs.Flat.{FlatNode}
+use Rattle.mrs_arena.specs.Formed.{AreNodes}
+use Rattle.mrs_arena.specs.Views.{flat_item}
+use Rattle.mrs_arena.specs.Placed.{item_of, placed, AreHeld, text_of}
+use Rattle.mrs_arena.proofs.HeldLaws.{AreHeld-item}
+use Rattle.mrs_schema.specs.Drafted.{Drafted, counts, last_items, last_named, with_items}
+use Rattle.mrs_schema.specs.Items.{names_of}
+use Rattle.mrs_schema.specs.Pointers.{pointer}
+use Rattle.mrs_schema.proofs.DraftLaws.{Passes-fault, placed-with_item, item_taken, item_refused, IsHeld-number, free_number, length-number}
+use Rattle.mrs_schema.proofs.draft.Draft.item.Goals as goal
+
+pub item-requires-clause-free : goal.item-requires-clause-free
+item-requires-clause-free c =
+    let names = c.self.inside.names in
+    let nodes = c.self.inside.nodes in
+    let held = subst (λ (d : Drafted). IfSome c.args.it.name (λ id. id.0 < length d.names)) (sym c.self.view_is) c.requires.held in
+    let free = subst (λ (d : Drafted). IfSome c.args.it.name (λ id. list_any (bytes_eq (text_of d.names id.0)) (names_of (last_items d.nodes)) ≡ false)) (sym c.self.view_is) c.requires.free in
+    free_number names nodes c.args.it.name c.len-count.ensures.names c.self.invariant held free
+
+pub invariant_of-self : goal.invariant_of-self
+invariant_of-self c =
+    let names = c.self.inside.names in
+    let held = subst (λ (d : Drafted). IfSome c.args.it.name (λ id. id.0 < length d.names)) (sym c.self.view_is) c.requires.held in
+    subst (λ (nodes : List FlatNode). AreHeld names nodes) (sym c.in-Ok.ensures.put)
+    (AreHeld-item names (flat_item c.args.it) c.self.inside.nodes (IsHeld-number names c.args.it.name held) c.self.invariant)
+
+pub returns-in-Ok-clause-steps : goal.returns-in-Ok-clause-steps
+returns-in-Ok-clause-steps c =
+    let at = pointer c.args.place.now in
+    let it = flat_item c.args.it in
+    let names = c.self.inside.names in
+    let nodes = c.self.inside.nodes in
+    let named = length (option_to_list c.args.it.name) in
+    let some : 0 < length nodes = omega (arith, c.requires.some, ap (λ d. length d.nodes) c.self.view_is, length-map nodes (placed names)) in
+    let put = c.in-Ok.ensures.put in
+    let formed = subst AreNodes put c.in-Ok.ensures.formed in (
+      ap (λ d. judged (within_limits (length (last_items d.nodes)) (last_named d.nodes + named) at) (counts d)) (sym c.self.view_is)
+          ∙ item_taken at names nodes it named (length-number c.args.it.name) some c.in-Ok.ensures.room formed
+          ∙ ap (λ ns. Ok (counts (record { names = names; nodes = map (placed names) ns }))) (sym put),
+      ap (map (placed names)) put ∙ placed-with_item names it nodes ∙ ap (λ d. with_items (item_of d.names it ∷ []) d.nodes) c.self.view_is,
+    )
+
+pub returns-clause-steps : goal.returns-clause-steps
+returns-clause-steps c =
+    let at = pointer c.args.place.now in
+    let named = length (option_to_list c.args.it.name) in
+    Passes-fault c.fault_at.result (record { at = at; why = TooMany }) _ _ _ c.fault_at.ensures (
+    ap (λ d. judged (within_limits (length (last_items d.nodes)) (last_named d.nodes + named) at) (counts d)) (sym c.self.view_is)
+    ∙ item_refused at c.self.inside.names c.self.inside.nodes (flat_item c.args.it) named (length-number c.args.it.name) (c.in-Err-TooMany.ensures.too_many (ap Err c.in-Err-TooMany.field-0-is))
+    )

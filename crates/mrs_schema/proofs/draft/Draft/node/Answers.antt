@@ -1,0 +1,53 @@
+use Rattle.std.proofs.Common.{◌∙◌, sym, ap, subst, ℕ, ◌<◌, List, [], ◌∷◌, ◌++◌, length, map, option_map, Option, Ok, Err}
+use Rattle.std.proofs.lemmas.List.{map_push, length-map}
+use Rattle.spec_json.specs.Event.{TooMany}
+use Rattle.spec_json.specs.Limits.{judged}
+use Rattle.spec_instructions.specs.Walk.{counted}
+use Rattle.mrs_arena.specs.Flat.{FlatNode}
+use Rattle.mrs_arena.specs.Nodes.{new_node}
+use Rattle.mrs_arena.specs.Paths.{IsPlace}
+use Rattle.mrs_arena.specs.Placed.{kind_of, placed, AreHeld}
+use Rattle.mrs_arena.proofs.HeldLaws.{parents-placed, AreHeld-node}
+use Rattle.mrs_schema.specs.Drafted.{Drafted, counts, parents}
+use Rattle.mrs_schema.specs.Pointers.{pointer}
+use Rattle.mrs_schema.proofs.CountLaws.{node_taken, node_refused}
+use Rattle.mrs_schema.proofs.DraftLaws.{Passes-fault}
+use Rattle.mrs_schema.proofs.draft.Draft.node.Goals as goal
+
+pub node-requires : goal.node-requires
+node-requires c =
+    let parent = option_map (λ p. p.0) c.args.parent in
+    let place = subst (λ (d : Drafted). IsPlace (parents d.nodes) parent) (sym c.self.view_is) c.requires.place in
+    subst (λ (ps : List (Option ℕ)). IsPlace ps parent) (parents-placed c.self.inside.names c.self.inside.nodes) place
+
+pub invariant_of-self : goal.invariant_of-self
+invariant_of-self c =
+    let names = c.self.inside.names in
+    let own = subst (λ (d : Drafted). c.args.name.0 < length d.names) (sym c.self.view_is) c.requires.held in
+    subst (λ (nodes : List FlatNode). AreHeld names nodes) (sym c.in-Ok.ensures.put)
+    (AreHeld-node names c.self.inside.nodes c.args.kind c.args.name.0 (option_map (λ p. p.0) c.args.parent) c.self.invariant own)
+
+pub returns-in-Ok-clause-steps : goal.returns-in-Ok-clause-steps
+returns-in-Ok-clause-steps c =
+    let at = pointer c.args.place.now in
+    let kind = c.args.kind in
+    let parent = option_map (λ p. p.0) c.args.parent in
+    let names = c.self.inside.names in
+    let nodes = c.self.inside.nodes in (
+      ap (λ d. judged (counted (kind_of kind) at) (counts d)) (sym c.self.view_is)
+          ∙ node_taken at names nodes kind c.args.name.0 parent c.in-Ok.ensures.room
+          ∙ ap (λ ns. Ok (counts (record { names = names; nodes = map (placed names) ns }))) (sym c.in-Ok.ensures.put),
+      (
+        c.in-Ok.ensures.number ∙ sym (length-map nodes (placed names)) ∙ ap (λ d. length d.nodes) c.self.view_is,
+        ap (map (placed names)) c.in-Ok.ensures.put ∙ map_push (placed names) nodes (new_node kind c.args.name.0 parent)
+            ∙ ap (λ d. d.nodes ++ placed d.names (new_node kind c.args.name.0 parent) ∷ []) c.self.view_is,
+      ),
+    )
+
+pub returns-clause-steps : goal.returns-clause-steps
+returns-clause-steps c =
+    let at = pointer c.args.place.now in
+    Passes-fault c.fault_at.result (record { at = at; why = TooMany }) _ _ _ c.fault_at.ensures (
+    ap (λ d. judged (counted (kind_of c.args.kind) at) (counts d)) (sym c.self.view_is)
+    ∙ node_refused at c.self.inside.names c.self.inside.nodes c.args.kind (c.in-Err-TooMany.ensures.too_many (ap Err c.in-Err-TooMany.field-0-is))
+    )

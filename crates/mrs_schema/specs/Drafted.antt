@@ -1,0 +1,73 @@
+-- What a walk has put so far: the names that are held, and the nodes with the texts of their names.
+use Rattle.std.specs.Prelude.{◌≡◌, ℕ, ◌-◌, Bool, true, false, List, [], ◌∷◌, ◌++◌, length, map, flat_map, count_by, slice_index_or, Option, is_some, Result, Ok, Err, ⊤}
+use Rattle.spec_bits.specs.Item.{Item}
+use Rattle.spec_json.specs.Event.{Event, Fault}
+use Rattle.spec_json.specs.Limits.{Counts, judged}
+use Rattle.spec_instructions.specs.Kind as kind
+use Rattle.spec_instructions.specs.Kind.{Kind}
+use Rattle.mrs_arena.specs.Paths.{ancestors}
+use Rattle.mrs_arena.specs.Placed.{Placed}
+use Rattle.mrs_schema.specs.Faults.{fault_of}
+use Rattle.mrs_schema.specs.declared.fault.ReadFault.{ReadFault}
+use Rattle.mrs_schema.specs.declared.fault.ReadFault.TheVariants.{Schema, NoMemory}
+
+pub record Drafted : Type 0 where
+  pub names : List (List ℕ)
+  pub nodes : List Placed
+
+-- how many nodes of a kind there are
+abbrev pub is_leaf_kind : Kind → Bool
+is_leaf_kind kind.Set = false
+is_leaf_kind kind.Group = false
+is_leaf_kind kind.Leaf = true
+is_leaf_kind kind.Alias = false
+is_leaf_kind kind.Instance = false
+
+abbrev pub is_alias_kind : Kind → Bool
+is_alias_kind kind.Set = false
+is_alias_kind kind.Group = false
+is_alias_kind kind.Leaf = false
+is_alias_kind kind.Alias = true
+is_alias_kind kind.Instance = false
+
+-- the counts of a walk that has put so much
+abbrev pub counts : Drafted → Counts
+counts d = record { held = d.names; nodes = length d.nodes; leaves = count_by (λ p. is_leaf_kind p.own.kind) d.nodes; aliases = count_by (λ p. is_alias_kind p.own.kind) d.nodes }
+
+-- ---- nodes
+
+abbrev pub parents : List Placed → List (Option ℕ)
+parents nodes = map (λ p. p.parent) nodes
+
+abbrev pub items_at : List Placed → ℕ → List Item
+items_at nodes n = slice_index_or (map (λ p. p.own.items) nodes) n []
+
+abbrev pub last_items : List Placed → List Item
+last_items nodes = items_at nodes (length nodes - 1)
+
+-- how many named items stand on the path of node n
+abbrev pub named_in : List Item → ℕ
+named_in items = count_by (λ it. is_some it.name) items
+
+abbrev pub named_at : List Placed → ℕ → ℕ
+named_at nodes n = named_in (flat_map (items_at nodes) (ancestors (parents nodes) n))
+
+abbrev pub last_named : List Placed → ℕ
+last_named nodes = named_at nodes (length nodes - 1)
+
+-- the nodes with more items at the last of them
+abbrev pub with_items : List Item → List Placed → List Placed
+with_items items [] = []
+with_items items (p ∷ []) = record p { own = record { kind = p.own.kind; name = p.own.name; items = p.own.items ++ items } } ∷ []
+with_items items (p ∷ q ∷ rest) = p ∷ with_items items (q ∷ rest)
+
+-- ---- steps of a walk
+
+-- an answer stands for what the events make of the counts: a value where they go on to these, a refusal where they end in the fault
+abbrev pub Passes : {T : Type 0} → Result T ReadFault → Result Counts Fault → Counts → (T → Type 0) → Type 0
+Passes (Ok x) judged after P = (judged ≡ Ok after) × P x
+Passes (Err (Schema f)) judged after P = judged ≡ Err (fault_of f)
+Passes (Err NoMemory) judged after P = ⊤
+
+abbrev pub Steps : {T : Type 0} → Result T ReadFault → Drafted → Drafted → List Event → (T → Type 0) → Type 0
+Steps result old new events P = Passes result (judged events (counts old)) (counts new) P
