@@ -1,0 +1,12 @@
+mod ListLaws
+mod RangeLaws
+mod NameLaws
+mod UpwardLaws
+mod WordLaws
+mod HoldLaws
+mod VisibleLaws
+mod LeafLaws
+mod CountLaws
+mod LabelLaws
+mod PartLaws
+mod KeptLaws

@@ -1,0 +1,9 @@
+pub mod Upward
+pub mod Words
+pub mod Visible
+pub mod Views
+pub mod Parts
+pub mod Leaves
+pub mod Labels
+pub mod Trees
+pub mod Kept

@@ -1,0 +1,54 @@
+//! The leaves by their labels.
+
+use crate::memory::NoMemory;
+use indexmap::IndexMap;
+use std::alloc::Global;
+use std::marker::Model;
+
+/// Labels, each with the number of the first leaf that has it. A clause sees the list of these pairs.
+#[derive(Drop)]
+pub(crate) struct LabelTable {
+    leaves: IndexMap<String, u32>,
+}
+
+impl Model for LabelTable {
+    ghost use Rattle.std.specs.Prelude.{List, ℕ, map};
+    ghost use Rattle.insn_tree.specs.Labels.{labels_of};
+
+    ghost Value = { List (List ℕ × ℕ) };
+
+    ghost view = { λ t. labels_of t.leaves.entries };
+}
+
+impl LabelTable {
+    ghost use Rattle.std.specs.Prelude.{◌≡◌, [], OnOk, string_bytes};
+    ghost use Rattle.insn_tree.specs.Labels.{with_label};
+    ghost use Rattle.insn_tree.specs.Trees.{number_of};
+
+    /// No labels.
+    pub(crate) fn new(alloc: Global) -> LabelTable
+        ensures { result ≡ [] }
+    {
+        LabelTable {
+            leaves: IndexMap::new(alloc),
+        }
+    }
+
+    /// Puts a leaf's label, unless an earlier leaf has it.
+    pub(crate) fn put(&mut self, label: String, leaf: u32) -> Result<(), NoMemory>
+        ensures { OnOk result (self.new ≡ with_label (string_bytes label) leaf self.old) }
+    {
+        if self.leaves.contains_key(label.as_str()) {
+            return Ok(());
+        }
+        self.leaves.insert(label, leaf)?;
+        Ok(())
+    }
+
+    /// The number of the leaf that has the label.
+    pub(crate) fn find(&self, text: &str) -> Option<u32>
+        ensures { result ≡ number_of text.now self.now }
+    {
+        self.leaves.get(text).copied()
+    }
+}

@@ -1,0 +1,42 @@
+//! The fields that are visible at each leaf.
+
+ghost use Rattle.std.specs.Prelude.{◌≡◌, ◌<◌, All, IfOk, length, map};
+ghost use Rattle.insn_tree.specs.Visible.{fields_at};
+ghost use Rattle.insn_tree.specs.Views.{flat_field};
+
+use crate::field_range::FieldRange;
+use crate::field_table::FieldTable;
+use crate::item_fields::push_fields;
+use crate::memory::NoMemory;
+use mrs_arena::{Arena, NodeId};
+use std::alloc::Global;
+
+/// The fields that are visible at a node, from the root down.
+fn visible_fields(alloc: Global, arena: &Arena, n: NodeId) -> Result<Vec<FieldRange>, NoMemory>
+    requires { n.0 < length arena.now }
+    ensures { IfOk result (λ fields. map flat_field fields.items ≡ fields_at arena.now n.0) }
+{
+    let mut fields = Vec::new(alloc);
+    for above in arena.path(n) {
+        push_fields(&mut fields, arena.node(above).items())?;
+    }
+    fields.reverse();
+    Ok(fields)
+}
+
+/// The fields that are visible at each leaf.
+pub(crate) fn leaf_fields(
+    alloc: Global,
+    arena: &Arena,
+    leaves: &[NodeId],
+) -> Result<FieldTable, NoMemory>
+    requires { All (λ n. n.0 < length arena.now) leaves.now }
+    ensures { IfOk result (λ table. table ≡ map (λ n. fields_at arena.now n.0) leaves.now) }
+{
+    let mut table = FieldTable::new(alloc);
+    for leaf in leaves {
+        let fields = visible_fields(alloc, arena, *leaf)?;
+        table.push(&fields)?;
+    }
+    Ok(table)
+}

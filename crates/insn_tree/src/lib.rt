@@ -1,0 +1,28 @@
+//! The leaves of the instruction tree: their labels, the bits that their paths fix, and the fields that are visible at them.
+#![tactic(auto)]
+
+mod alias_table;
+mod field_range;
+mod field_table;
+mod item_fields;
+mod item_word;
+mod label_ref;
+mod label_table;
+mod labels;
+mod leaf_fields;
+mod leaf_id;
+mod leaf_nodes;
+mod leaf_table;
+mod leaf_word;
+mod memory;
+mod namesakes;
+mod shared;
+#[cfg(test)]
+mod tests;
+mod tree;
+
+pub use field_range::FieldRange;
+pub use label_ref::LabelRef;
+pub use leaf_id::{AliasId, LeafId};
+pub use memory::NoMemory;
+pub use tree::Tree;

@@ -1,0 +1,172 @@
+//! What is asked of the tree of instructions, by the numbers of leaves and aliases.
+
+use crate::alias_table::{AliasTable, find_aliases};
+use crate::field_range::FieldRange;
+use crate::label_ref::LabelRef;
+use crate::label_table::LabelTable;
+use crate::labels::{find_labels, label_of};
+use crate::leaf_id::{AliasId, LeafId};
+use crate::leaf_nodes::{LeafNodes, find_leaves};
+use crate::leaf_table::{LeafTable, describe_leaves};
+use crate::memory::NoMemory;
+use bit_pattern::Pattern;
+use mrs_arena::{Arena, NodeId};
+use mrs_names::Names;
+use std::alloc::Global;
+use std::marker::Model;
+
+/// The tree of an arena, with what is asked of its leaves found once. It never changes, and no call but `new` takes memory.
+///
+/// A clause sees the nodes of the arena, and the labels of the leaves.
+#[derive(Drop)]
+pub struct Tree {
+    arena: Arena,
+    leaves: LeafTable,
+    aliases: AliasTable,
+    labels: LabelTable,
+}
+
+impl Model for Tree {
+    ghost use Rattle.insn_tree.specs.Trees.{TreeParts};
+    ghost use Rattle.insn_tree.specs.Kept.{AreLeaves, AreAliases};
+
+    ghost Value = { TreeParts };
+
+    ghost view = { λ t. record { nodes = t.arena; labels = t.labels } };
+
+    ghost invariant = { λ t. AreLeaves t.arena t.leaves × AreAliases t.arena t.aliases };
+}
+
+impl Tree {
+    ghost use Rattle.std.specs.Prelude.{◌≡◌, ◌<◌, ℕ, List, length, map, option_map, slice_get, IfOk, IfSome, Some};
+    ghost use Rattle.bit_pattern.specs.Views.{digits_of};
+    ghost use Rattle.mrs_names.specs.Texts.{AreNames};
+    ghost use Rattle.mrs_arena.specs.Placed.{leaves_of, aliases_of, AreHeld};
+    ghost use Rattle.spec_instructions.specs.Paths.{label, labelled_leaf};
+    ghost use Rattle.spec_instructions.specs.Fields.{merged, fields};
+    ghost use Rattle.spec_decode.specs.Found.{path_holds};
+    ghost use Rattle.insn_tree.specs.Trees.{IsOf, tree_paths, path_at, label_text, label_number, field_of, IsLeafAbove};
+
+    /// The tree of an arena, the texts of whose names are held by `names`.
+    pub fn new(alloc: Global, arena: Arena, names: &Names) -> Result<Tree, NoMemory>
+        requires { AreHeld names.now arena }
+        ensures nodes { IfOk result (λ t. t.nodes ≡ arena) }
+        ensures made { IfOk result (λ t. IsOf names.now t) }
+    {
+        let leaves = find_leaves(alloc, &arena)?;
+        let aliases = find_aliases(alloc, &arena, &leaves.before)?;
+        let LeafNodes { nodes, before: _ } = leaves;
+        let leaves = describe_leaves(alloc, &arena, names, nodes)?;
+        let labels = find_labels(alloc, names, &leaves.names, &leaves.shared)?;
+        Ok(Tree {
+            arena,
+            leaves,
+            aliases,
+            labels,
+        })
+    }
+
+    /// The arena of the nodes.
+    pub fn arena(&self) -> &Arena
+        ensures { result.now ≡ self.now.nodes }
+    {
+        &self.arena
+    }
+
+    /// How many leaves there are.
+    pub fn leaves(&self) -> u32
+        ensures { result ≡ length (leaves_of self.now.nodes) }
+    {
+        self.leaves.nodes.len() as u32
+    }
+
+    /// How many aliases there are.
+    pub fn aliases(&self) -> u32
+        ensures { result ≡ length (aliases_of self.now.nodes) }
+    {
+        self.aliases.nodes.len() as u32
+    }
+
+    /// The node of a leaf.
+    pub fn leaf_node(&self, l: LeafId) -> NodeId
+        requires { l.0 < length (leaves_of self.now.nodes) }
+        ensures node { slice_get (leaves_of self.now.nodes) l.0 ≡ Some result.0 }
+        ensures within { result.0 < length self.now.nodes }
+    {
+        self.leaves.nodes[l.0 as usize]
+    }
+
+    /// The node of an alias.
+    pub fn alias_node(&self, a: AliasId) -> NodeId
+        requires { a.0 < length (aliases_of self.now.nodes) }
+        ensures node { slice_get (aliases_of self.now.nodes) a.0 ≡ Some result.0 }
+        ensures within { result.0 < length self.now.nodes }
+    {
+        self.aliases.nodes[a.0 as usize]
+    }
+
+    /// The leaf of an alias: the node above it, where that is a leaf.
+    pub fn alias_leaf(&self, a: AliasId) -> LeafId
+        requires { a.0 < length (aliases_of self.now.nodes) }
+        ensures { (n : ℕ) → slice_get (aliases_of self.now.nodes) a.0 ≡ Some n → IsLeafAbove self.now.nodes n result.0 }
+    {
+        self.aliases.leaves[a.0 as usize]
+    }
+
+    /// A leaf's label. `names` are those that the tree was made with.
+    pub fn label<'a>(&'a self, l: LeafId, names: &'a Names) -> LabelRef<'a>
+        requires leaf { l.0 < length (leaves_of self.now.nodes) }
+        requires names { IsOf names.now self.now }
+        ensures text { label_text result ≡ label (tree_paths names.now self.now) l.0 }
+        ensures number { result.number ≡ label_number (tree_paths names.now self.now) l.0 }
+    {
+        let leaf = l.0 as usize;
+        label_of(
+            names,
+            self.leaves.names[leaf],
+            self.leaves.shared[leaf],
+            l.0,
+        )
+    }
+
+    /// The leaf with that label; `None` exactly where no leaf has it. `names` are those that the tree was made with.
+    pub fn find_label(&self, names: &Names, text: &str) -> Option<LeafId>
+        requires { IsOf names.now self.now }
+        ensures leaf { option_map (λ l. l.0) result ≡ labelled_leaf (tree_paths names.now self.now) text.now }
+        ensures within { IfSome result (λ l. l.0 < length (leaves_of self.now.nodes)) }
+    {
+        match self.labels.find(text) {
+            Some(leaf) => Some(LeafId(leaf)),
+            None => None,
+        }
+    }
+
+    /// All bits that the items along the leaf's path fix, as a pattern of 32 digits; `None` exactly where two of them fix a bit to different values.
+    pub fn merged(&self, l: LeafId) -> Option<Pattern>
+        requires { l.0 < length (leaves_of self.now.nodes) }
+        ensures bits { (names : List (List ℕ)) → option_map digits_of result ≡ merged (path_at names self.now l.0) }
+        ensures width { IfSome result (λ p. p.width ≡ 32) }
+    {
+        self.leaves.merged[l.0 as usize]
+    }
+
+    /// The visible fields in path order from the root and item order, each name once at its deepest item.
+    pub fn fields(&self, l: LeafId) -> &[FieldRange]
+        requires { l.0 < length (leaves_of self.now.nodes) }
+        ensures { (names : List (List ℕ)) → AreNames names → AreHeld names self.now.nodes
+            → map (field_of names) result.now ≡ fields (path_at names self.now l.0) }
+    {
+        self.leaves.fields.at(l.0 as usize)
+    }
+
+    /// Whether all items along the leaf's path hold at the word `w`.
+    pub fn leaf_holds(&self, l: LeafId, w: u32) -> bool
+        requires { l.0 < length (leaves_of self.now.nodes) }
+        ensures { (names : List (List ℕ)) → result ≡ path_holds (path_at names self.now l.0) w }
+    {
+        match self.leaves.merged[l.0 as usize] {
+            Some(pattern) => pattern.holds(u128::from(w)),
+            None => false,
+        }
+    }
+}
