@@ -5,13 +5,13 @@ use Rattle.std.specs.Str.{is_utf8}
 use Rattle.std.proofs.lemmas.Str.{is_utf8-from_IsUtf8, IsUtf8-from_is_utf8}
 use Rattle.serde_json.specs.Data.{Data}
 use Rattle.serde_json.specs.Read.{read}
-use Rattle.spec_run.specs.Outcome.{value_in}
+use Rattle.spec_run.specs.Outcome.{json_in}
 
-pub value_in-utf8 : (bytes : List ℕ) (d : Option Data) → IsUtf8 bytes → read bytes ≡ d → value_in bytes ≡ d
-value_in-utf8 bytes d utf8 reads = rw (is_utf8-from_IsUtf8 bytes utf8) reads
+pub json_in-utf8 : (bytes : List ℕ) (d : Option Data) → IsUtf8 bytes → read bytes ≡ d → json_in bytes ≡ d
+json_in-utf8 bytes d utf8 reads = rw (is_utf8-from_IsUtf8 bytes utf8) reads
 
-pub value_in-none : (bytes : List ℕ) → (IsUtf8 bytes → read bytes ≡ None) → value_in bytes ≡ None
-value_in-none bytes h = go (is_utf8 bytes) refl
+pub json_in-none : (bytes : List ℕ) → (IsUtf8 bytes → read bytes ≡ None) → json_in bytes ≡ None
+json_in-none bytes h = go (is_utf8 bytes) refl
   where
     go : (b : Bool) → is_utf8 bytes ≡ b → cond b (read bytes) None ≡ None
     go true e = h (IsUtf8-from_is_utf8 bytes e)

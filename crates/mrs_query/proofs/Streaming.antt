@@ -265,6 +265,7 @@ ends paths left0 left1 taken0 taken1 taken2 i0 i1 o0 o1 o2 offset last status.Wr
 }
 ends paths left0 left1 taken0 taken1 taken2 i0 i1 o0 o1 o2 offset last (status.Usage place) il ol r f = absurd f
 ends paths left0 left1 taken0 taken1 taken2 i0 i1 o0 o1 o2 offset last (status.Document which fault) il ol r f = absurd f
+ends paths left0 left1 taken0 taken1 taken2 i0 i1 o0 o1 o2 offset last (status.Question fault) il ol r f = absurd f
 ends paths left0 left1 taken0 taken1 taken2 i0 i1 o0 o1 o2 offset last (status.ReadFault which) il ol r f = absurd f
 ends paths left0 left1 taken0 taken1 taken2 i0 i1 o0 o1 o2 offset last (status.Limit which) il ol r f = absurd f
 
@@ -327,3 +328,4 @@ probed paths left0 left left1 taken0 taken i0 i i1 o0 o status.NoMemory il ol p 
 probed paths left0 left left1 taken0 taken i0 i i1 o0 o status.WriteFault il ol p h = absurd h
 probed paths left0 left left1 taken0 taken i0 i i1 o0 o (status.Usage place) il ol p h = absurd h
 probed paths left0 left left1 taken0 taken i0 i i1 o0 o (status.Document which fault) il ol p h = absurd h
+probed paths left0 left left1 taken0 taken i0 i i1 o0 o (status.Question fault) il ol p h = absurd h

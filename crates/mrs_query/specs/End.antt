@@ -2,8 +2,11 @@
 use Rattle.spec_run.specs.Outcome as run
 use Rattle.mrs_query.specs.declared.status.Which.{Which}
 use Rattle.mrs_query.specs.declared.status.Which.TheVariants as which
+use Rattle.mrs_schema.specs.Faults as schema
 use Rattle.mrs_query.specs.declared.status.DocFault.{DocFault}
 use Rattle.mrs_query.specs.declared.status.DocFault.TheVariants as fault
+use Rattle.mrs_query.specs.declared.status.QuestionFault.{QuestionFault}
+use Rattle.mrs_query.specs.declared.status.QuestionFault.TheVariants as question
 use Rattle.mrs_query.specs.declared.status.Status.{Status}
 use Rattle.mrs_query.specs.declared.status.Status.TheVariants as status
 
@@ -13,13 +16,17 @@ which_of which.Input = run.Input
 
 abbrev pub fault_of : DocFault → run.DocFault
 fault_of fault.Json = run.Json
-fault_of fault.Outside = run.Outside
+fault_of (fault.Schema f) = run.Schema (schema.fault_of f)
+
+abbrev pub question_of : QuestionFault → run.QuestionFault
+question_of question.NoLeaf = run.NoLeaf
 
 abbrev pub end_of : Status → run.End
 end_of status.Done = run.Done
 end_of (status.Ragged rest) = run.Ragged rest
 end_of (status.Usage place) = run.Usage place
 end_of (status.Document which fault) = run.Document (which_of which) (fault_of fault)
+end_of (status.Question fault) = run.Question (question_of fault)
 end_of (status.ReadFault which) = run.ReadFault (which_of which)
 end_of status.WriteFault = run.WriteFault
 end_of (status.Limit which) = run.Limit (which_of which)

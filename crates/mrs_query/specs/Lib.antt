@@ -1,5 +1,7 @@
 pub mod End
-pub mod Words
+pub mod Ended
 pub mod Opened
+pub mod Down
 pub mod Pieces
 pub mod Texts
+pub mod Wrote

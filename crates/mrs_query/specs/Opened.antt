@@ -1,10 +1,9 @@
 -- What the document gives: its paths, or the status that it decides.
-use Rattle.std.specs.Prelude.{◌≡◌, ◌⊎◌, ℕ, List, Option, Some, None, Result, Ok, Err, IfSome, IsSomeAnd, map, ⊤}
+use Rattle.std.specs.Prelude.{◌≡◌, ◌⊎◌, ℕ, List, Option, Some, None, Result, Ok, Err, IfSome, IsSomeAnd, ⊤}
 use Rattle.spec_io.specs.Faults.{Rose}
 use Rattle.spec_io.specs.Documents.{Document, document_of}
 use Rattle.spec_instructions.specs.Tree.{Own}
 use Rattle.spec_run.specs.Outcome as run
-use Rattle.mrs_schema.specs.Flattened.{flattened}
 use Rattle.mrs_query.specs.declared.status.Status.{Status}
 use Rattle.mrs_query.specs.declared.status.Status.TheVariants as status
 use Rattle.mrs_query.specs.declared.status.Which.TheVariants as which
@@ -20,17 +19,22 @@ Parsed value (Err status.NoMemory) = ⊤
 Parsed value (Err (status.Document which fault)) = (value ≡ None) × (which_of which ≡ run.Insns) × (fault_of fault ≡ run.Json)
 Parsed value (Err end) = ⊥
 
--- the paths that a JSON value gives, each as one node, or the status that it decides, unless memory ran out
-abbrev pub Read : Option Data → Result (List (List Own)) Status → Type 0
-Read value (Ok plain) = (paths : List (List Own)) × (plain ≡ map flattened paths) × (run.of_value value ≡ Ok paths)
-Read value (Err status.NoMemory) = ⊤
-Read value (Err end) = run.of_value value ≡ Err (end_of end)
+-- the paths that a JSON value gives, or the status that it decides, unless memory ran out
+abbrev pub Read : List ℕ → Option Data → Result (List (List Own)) Status → Type 0
+Read isa value (Ok paths) = run.of_value isa value ≡ Ok paths
+Read isa value (Err status.NoMemory) = ⊤
+Read isa value (Err end) = run.of_value isa value ≡ Err (end_of end)
 
 -- the same of the document of that name, which is fetched first
-abbrev pub Fetches : Option (List Document) → List ℕ → ℕ → ℕ → Result (List (List Own)) Status → Type 0
-Fetches told name before after (Ok plain) = (after ≡ before) × (paths : List (List Own)) × (plain ≡ map flattened paths) × IfSome told (λ docs. run.of_document (document_of name docs) ≡ Ok paths)
-Fetches told name before after (Err status.NoMemory) = after ≡ before
-Fetches told name before after (Err (status.ReadFault which.Insns)) = Rose before after ⊎ IsSomeAnd told (λ docs. document_of name docs ≡ None)
-Fetches told name before after (Err (status.Document which.Insns fault)) = (after ≡ before) × IfSome told (λ docs. run.of_document (document_of name docs) ≡ Err (run.Document run.Insns (fault_of fault)))
-Fetches told name before after (Err (status.Limit which.Insns)) = (after ≡ before) × IfSome told (λ docs. run.of_document (document_of name docs) ≡ Err (run.Limit run.Insns))
-Fetches told name before after (Err end) = ⊥
+module _ (told : Option (List Document)) (name isa : List ℕ) where
+  -- a shelf that tells its documents has one of the name, of which this becomes
+  abbrev pub Gives : Result (List (List Own)) run.End → Type 0
+  Gives end = IfSome told (λ docs. run.of_document isa (document_of name docs) ≡ end)
+
+  abbrev pub Fetches : ℕ → ℕ → Result (List (List Own)) Status → Type 0
+  Fetches before after (Ok paths) = (after ≡ before) × Gives (Ok paths)
+  Fetches before after (Err status.NoMemory) = after ≡ before
+  Fetches before after (Err (status.ReadFault which.Insns)) = Rose before after ⊎ IsSomeAnd told (λ docs. document_of name docs ≡ None)
+  Fetches before after (Err (status.Document which.Insns fault)) = (after ≡ before) × Gives (Err (run.Document run.Insns (fault_of fault)))
+  Fetches before after (Err (status.Limit which.Insns)) = (after ≡ before) × Gives (Err (run.Limit run.Insns))
+  Fetches before after (Err end) = ⊥

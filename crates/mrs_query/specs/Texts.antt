@@ -1,10 +1,6 @@
--- The texts of statuses in which no number stands.
-use Rattle.std.specs.Prelude.{◌≡◌, ℕ, List, ⊤}
-use Rattle.spec_run.specs.Outcome.{message}
-use Rattle.mrs_query.specs.End.{end_of}
-use Rattle.mrs_query.specs.declared.status.Status.{Status}
-use Rattle.mrs_query.specs.declared.status.Status.TheVariants as status
+-- Texts that go out part by part.
+use Rattle.std.specs.Prelude.{ℕ, List, flat_map}
 
-abbrev pub IsFixedText : Status → List ℕ → Type 0
-IsFixedText (status.Usage place) text = ⊤
-IsFixedText other text = text ≡ message (end_of other)
+-- the parts of a text, joined
+abbrev pub joined : List (List ℕ) → List ℕ
+joined parts = flat_map (λ part. part) parts

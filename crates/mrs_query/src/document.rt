@@ -1,30 +1,34 @@
-//! The Instructions document: fetched, read as JSON, and read as the paths to its leaves.
+//! The Instructions document: fetched, read as JSON, and read as the tree of one of its sets.
 ghost use Rattle.std.specs.Prelude.{◌≡◌, ◌≤◌, Some};
 ghost use Rattle.serde_json.specs.View.{view};
-ghost use Rattle.spec_run.specs.Outcome.{value_in};
+ghost use Rattle.spec_run.specs.Outcome.{json_in};
 ghost use Rattle.mrs_query.specs.Opened.{Read, Fetches, Parsed};
 
+use crate::release::Release;
 use crate::{DocFault, Status, Which};
+use insn_tree::Tree;
 use mrs_io::{FetchFault, Shelf};
-use mrs_schema::{Plain, PlainFault, read_plain};
+use mrs_names::Names;
+use mrs_schema::{ReadFault, read_instructions};
 use serde_json::Value;
 use std::alloc::Global;
 
 /// The greatest length of a document, in bytes.
 const DOCUMENT_LIMIT: u64 = 268_435_456;
 
-/// The paths that a document of this name gives, or the status that it decides.
+/// The set `isa` of a document of this name, or the status that the document decides.
 pub(crate) fn open_document<V: Shelf>(
     alloc: Global,
     shelf: &mut V,
     name: &str,
-) -> Result<Plain, Status>
-    ensures fetched { Fetches (V.holds shelf.old) name.now (V.faults shelf.old) (V.faults shelf.new) result }
+    isa: &str,
+) -> Result<Release, Status>
+    ensures fetched { Fetches (V.holds shelf.old) name.now isa.now (V.faults shelf.old) (V.faults shelf.new) result }
     ensures same { V.holds shelf.new ≡ V.holds shelf.old }
     ensures later { V.faults shelf.old ≤ V.faults shelf.new }
 {
     match shelf.fetch(alloc, name, DOCUMENT_LIMIT) {
-        Ok(bytes) => read_document(alloc, &bytes),
+        Ok(bytes) => read_document(alloc, &bytes, isa),
         Err(FetchFault::Failed) => Err(Status::ReadFault {
             which: Which::Insns,
         }),
@@ -35,17 +39,17 @@ pub(crate) fn open_document<V: Shelf>(
     }
 }
 
-/// The paths that the bytes of a document give, or the status that they decide.
-fn read_document(alloc: Global, bytes: &[u8]) -> Result<Plain, Status>
-    ensures { Read (value_in bytes.now) result }
+/// The set of that name in the bytes of a document, or the status that they decide.
+fn read_document(alloc: Global, bytes: &[u8], isa: &str) -> Result<Release, Status>
+    ensures { Read isa.now (json_in bytes.now) result }
 {
     let value = read_json(alloc, bytes)?;
-    read_value(alloc, &value)
+    read_value(alloc, &value, isa)
 }
 
 /// The JSON value that bytes are read as.
 fn read_json(alloc: Global, bytes: &[u8]) -> Result<Value, Status>
-    ensures { Parsed (value_in bytes.now) result }
+    ensures { Parsed (json_in bytes.now) result }
 {
     match Value::from_slice(alloc, bytes) {
         Ok(value) => Ok(value),
@@ -62,16 +66,20 @@ fn read_json(alloc: Global, bytes: &[u8]) -> Result<Value, Status>
     }
 }
 
-/// The paths that a JSON value gives, or the status that it decides.
-fn read_value(alloc: Global, value: &Value) -> Result<Plain, Status>
-    ensures { Read (Some (view value.now)) result }
+/// The set of that name in a JSON value, or the status that the value decides.
+fn read_value(alloc: Global, value: &Value, isa: &str) -> Result<Release, Status>
+    ensures { Read isa.now (Some (view value.now)) result }
 {
-    match read_plain(alloc, value) {
-        Ok(plain) => Ok(plain),
-        Err(PlainFault::Outside) => Err(Status::Document {
+    let mut names = Names::new(alloc);
+    match read_instructions(alloc, value, isa, &mut names) {
+        Ok(arena) => match Tree::new(alloc, arena, &names) {
+            Ok(tree) => Ok(Release::new(names, tree)),
+            Err(_) => Err(Status::NoMemory),
+        },
+        Err(ReadFault::Schema(fault)) => Err(Status::Document {
             which: Which::Insns,
-            fault: DocFault::Outside,
+            fault: DocFault::Schema(fault),
         }),
-        Err(PlainFault::NoMemory) => Err(Status::NoMemory),
+        Err(ReadFault::NoMemory) => Err(Status::NoMemory),
     }
 }

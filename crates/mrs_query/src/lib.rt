@@ -1,18 +1,23 @@
 //! The top call: one function does all that the program does, over objects that stand for the outside.
 #![tactic(auto)]
 
-mod command;
 mod document;
 mod hex;
+mod label;
+mod leaf;
 mod line;
 mod lister;
 mod matches;
 mod message;
+mod parts;
+mod release;
+mod request;
 mod status;
 mod stream;
-#[cfg(test)]
-mod tests;
 mod top;
 
-pub use status::{DocFault, Status, Which};
+pub use status::{DocFault, QuestionFault, Status, Which};
 pub use top::run;
+
+#[cfg(test)]
+mod tests;

@@ -1,81 +1,164 @@
 //! The text of a status, for the sink of messages.
-ghost use Rattle.std.specs.Prelude.{◌≡◌, ◌≤◌, [], OnOk, OnErr};
-ghost use Rattle.std.specs.Io.KnownBytes.{Appends};
-ghost use Rattle.spec_run.specs.Outcome.{Usage, message};
+ghost use Rattle.std.specs.Prelude.{◌≡◌, ◌≤◌, [], ◌∷◌, ◌++◌, map, codes};
+ghost use Rattle.spec_run.specs.Outcome as run;
+ghost use Rattle.spec_run.specs.Outcome.{message, why_text};
 ghost use Rattle.spec_run.specs.Scene.{TookText};
-ghost use Rattle.mrs_io.specs.Causes.{HasCause};
-ghost use Rattle.mrs_io.specs.Pieces.{AppendsPart};
-ghost use Rattle.mrs_query.specs.End.{end_of};
-ghost use Rattle.mrs_query.specs.Texts.{IsFixedText};
+ghost use Rattle.mrs_schema.specs.Faults as schema;
+ghost use Rattle.mrs_query.specs.End.{end_of, which_of, question_of};
+ghost use Rattle.mrs_query.specs.Texts.{joined};
+ghost use Rattle.mrs_query.specs.Wrote.{Wrote, member_of};
 
-use crate::{DocFault, Status, Which};
+use crate::parts::write_parts;
+use crate::status::{DocFault, QuestionFault, Status, Which};
 use itoa::Buffer;
-use mrs_io::{Failed, Sink, write_whole};
+use mrs_io::{Failed, Sink};
+use mrs_schema::{SchemaFault, Why};
+
+/// What a status names.
+fn which_text(which: Which) -> &'static [u8]
+    ensures { result.now ≡ run.which_text (which_of which) }
+{
+    match which {
+        Which::Insns => b"insns",
+        Which::Input => b"input",
+    }
+}
+
+/// Why a question has no answer.
+fn question_text(fault: QuestionFault) -> &'static [u8]
+    ensures { result.now ≡ run.question_text (question_of fault) }
+{
+    match fault {
+        QuestionFault::NoLeaf => b"leaf",
+    }
+}
+
+/// The word for a reason, behind which a missing member's name stands.
+fn reason_word(why: &Why) -> &'static [u8]
+    ensures { result.now ++ member_of (schema.why_of why.now) ≡ why_text (schema.why_of why.now) }
+{
+    match why {
+        Why::Missing(_) => b"missing:",
+        Why::UnlistedKind => b"kind",
+        Why::WrongShape => b"shape",
+        Why::BadPattern(_) => b"pattern",
+        Why::BadRange => b"range",
+        Why::BadName => b"name",
+        Why::Doubled => b"doubled",
+        Why::TooMany => b"many",
+        Why::NoSet => b"no-set",
+        Why::NotYet => b"not-yet",
+    }
+}
+
+/// The name of the member that is missing, if one is.
+fn missing_member(why: &Why) -> &[u8]
+    ensures { result.now ≡ member_of (schema.why_of why.now) }
+{
+    match why {
+        Why::Missing(member) => member.as_str().as_bytes(),
+        _ => b"",
+    }
+}
 
 /// Writes the text of refused words.
 fn write_usage<E: Sink>(err: &mut E, place: u64) -> Result<(), Failed>
-    ensures whole { OnOk result (Appends (E.taken err.old) (E.taken err.new) (message (Usage place))) }
-    ensures part { OnErr result (AppendsPart (E.taken err.old) (E.taken err.new) (message (Usage place))) }
-    ensures cause { HasCause (E.faults err.old) (E.faults err.new) result }
+    ensures { Wrote (E.taken err.old) (E.taken err.new) (E.faults err.old) (E.faults err.new) (message (run.Usage place)) result }
 {
-    write_whole(err, b"usage ")?;
-    write_whole(err, Buffer::new().format(place).as_bytes())?;
-    write_whole(err, b"\n")?;
-    Ok(())
+    write_parts(
+        err,
+        &[
+            b"usage ".as_slice(),
+            Buffer::new().format(place).as_bytes(),
+            b"\n".as_slice(),
+        ],
+    )
 }
 
-/// The text of a status other than that of refused words, which has a number in it.
-fn fixed_text(status: Status) -> &'static [u8]
-    ensures { IsFixedText status result.now }
+/// Writes the text of a document without a JSON reading.
+fn write_no_json<E: Sink>(err: &mut E, which: Which) -> Result<(), Failed>
+    ensures { Wrote (E.taken err.old) (E.taken err.new) (E.faults err.old) (E.faults err.new) (message (run.Document (which_of which) run.Json)) result }
+{
+    write_parts(
+        err,
+        &[
+            b"document ".as_slice(),
+            which_text(which),
+            b" json\n".as_slice(),
+        ],
+    )
+}
+
+/// The parts of the text of a document's fault.
+fn fault_parts<'a>(
+    which: &'a [u8],
+    reason: &'a [u8],
+    member: &'a [u8],
+    path: &'a [u8],
+) -> [&'a [u8]; 8]
+    ensures { joined (map (λ part. part.now) result) ≡ codes "document " ++ (which.now ++ (32 ∷ (reason.now ++ (member.now ++ (32 ∷ (path.now ++ 10 ∷ [])))))) }
+{
+    [
+        b"document ".as_slice(),
+        which,
+        b" ".as_slice(),
+        reason,
+        member,
+        b" ".as_slice(),
+        path,
+        b"\n".as_slice(),
+    ]
+}
+
+/// Writes the text of a document's first fault: the reason, and the JSON Pointer of its place.
+fn write_fault<E: Sink>(err: &mut E, which: Which, fault: &SchemaFault) -> Result<(), Failed>
+    ensures { Wrote (E.taken err.old) (E.taken err.new) (E.faults err.old) (E.faults err.new) (message (run.Document (which_of which) (run.Schema (schema.fault_of fault.now)))) result }
+{
+    let parts = fault_parts(
+        which_text(which),
+        reason_word(&fault.why),
+        missing_member(&fault.why),
+        fault.path.as_str().as_bytes(),
+    );
+    write_parts(err, parts.as_slice())
+}
+
+/// Writes a word, what it is about, and the end of the line.
+fn write_two<E: Sink>(err: &mut E, first: &[u8], second: &[u8]) -> Result<(), Failed>
+    ensures { Wrote (E.taken err.old) (E.taken err.new) (E.faults err.old) (E.faults err.new) (first.now ++ (second.now ++ 10 ∷ [])) result }
+{
+    write_parts(err, &[first, second, b"\n".as_slice()])
+}
+
+/// Writes the text of a status that has one.
+fn write_message<E: Sink>(err: &mut E, status: &Status) -> Result<(), Failed>
+    ensures text { Wrote (E.taken err.old) (E.taken err.new) (E.faults err.old) (E.faults err.new) (message (end_of status.now)) result }
+    ensures quiet { message (end_of status.now) ≡ [] → err.new ≡ err.old }
 {
     match status {
-        Status::Done | Status::Ragged { rest: _ } | Status::NoMemory => b"",
-        Status::Usage { place: _ } => b"",
+        Status::Done | Status::Ragged { rest: _ } | Status::NoMemory => Ok(()),
+        Status::Usage { place } => write_usage(err, *place),
         Status::Document {
-            which: Which::Insns,
+            which,
             fault: DocFault::Json,
-        } => b"document insns json\n",
+        } => write_no_json(err, *which),
         Status::Document {
-            which: Which::Insns,
-            fault: DocFault::Outside,
-        } => b"document insns outside\n",
-        Status::Document {
-            which: Which::Input,
-            fault: DocFault::Json,
-        } => b"document input json\n",
-        Status::Document {
-            which: Which::Input,
-            fault: DocFault::Outside,
-        } => b"document input outside\n",
-        Status::ReadFault {
-            which: Which::Insns,
-        } => b"read insns\n",
-        Status::ReadFault {
-            which: Which::Input,
-        } => b"read input\n",
-        Status::WriteFault => b"write out\n",
-        Status::Limit {
-            which: Which::Insns,
-        } => b"limit insns\n",
-        Status::Limit {
-            which: Which::Input,
-        } => b"limit input\n",
+            which,
+            fault: DocFault::Schema(fault),
+        } => write_fault(err, *which, fault),
+        Status::Question { fault } => write_two(err, question_text(*fault), b""),
+        Status::ReadFault { which } => write_two(err, b"read ", which_text(*which)),
+        Status::WriteFault => write_two(err, b"write out", b""),
+        Status::Limit { which } => write_two(err, b"limit ", which_text(*which)),
     }
 }
 
 /// Writes the text of a status. A sink that fails has taken a part of it.
-pub(crate) fn tell<E: Sink>(err: &mut E, status: Status)
+pub(crate) fn tell<E: Sink>(err: &mut E, status: &Status)
     ensures text { TookText (record { taken = E.taken err.old; faults = E.faults err.old })
-        (record { taken = E.taken err.new; faults = E.faults err.new }) (message (end_of status)) }
+        (record { taken = E.taken err.new; faults = E.faults err.new }) (message (end_of status.now)) }
     ensures count { E.faults err.old ≤ E.faults err.new }
-    ensures quiet { message (end_of status) ≡ [] → err.new ≡ err.old }
+    ensures quiet { message (end_of status.now) ≡ [] → err.new ≡ err.old }
 {
-    match status {
-        Status::Usage { place } => {
-            let _ = write_usage(err, place);
-        }
-        other => {
-            let _ = write_whole(err, fixed_text(other));
-        }
-    }
+    let _ = write_message(err, status);
 }

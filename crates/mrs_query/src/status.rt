@@ -3,6 +3,8 @@ ghost use Rattle.std.specs.Prelude.{◌≡◌};
 ghost use Rattle.spec_run.specs.Outcome.{exit_number};
 ghost use Rattle.mrs_query.specs.End.{end_of};
 
+use mrs_schema::SchemaFault;
+
 /// What a status names: the Instructions document, or the stream.
 #[derive(Clone, Copy, Debug, PartialEq, Eq)]
 pub enum Which {
@@ -10,15 +12,24 @@ pub enum Which {
     Input,
 }
 
-/// Why a document is refused: it has no JSON reading, or it is outside what this program reads.
-#[derive(Clone, Copy, Debug, PartialEq, Eq)]
+/// Why a document is refused.
+#[derive(Drop, Debug, PartialEq, Eq)]
 pub enum DocFault {
+    /// It has no JSON reading.
     Json,
-    Outside,
+    /// It leaves the profile; the fault is the first of the walk over it.
+    Schema(SchemaFault),
+}
+
+/// Why a question has no answer.
+#[derive(Clone, Copy, Debug, PartialEq, Eq)]
+pub enum QuestionFault {
+    /// No leaf has the label.
+    NoLeaf,
 }
 
 /// How a run ends.
-#[derive(Clone, Copy, Debug, PartialEq, Eq)]
+#[derive(Drop, Debug, PartialEq, Eq)]
 pub enum Status {
     /// The command's output went out whole.
     Done,
@@ -28,6 +39,8 @@ pub enum Status {
     Usage { place: u64 },
     /// A document is refused.
     Document { which: Which, fault: DocFault },
+    /// What the command asks for is not there.
+    Question { fault: QuestionFault },
     /// The shelf or the source failed, or the shelf holds no such document.
     ReadFault { which: Which },
     /// The sink for lines failed.
@@ -40,14 +53,15 @@ pub enum Status {
 
 impl Status {
     /// The number with which the program ends.
-    pub fn exit_number(self) -> u8
-        ensures { result ≡ exit_number (end_of self) }
+    pub fn exit_number(&self) -> u8
+        ensures { result ≡ exit_number (end_of self.now) }
     {
         match self {
             Status::Done => 0,
             Status::Ragged { rest: _ } => 1,
             Status::Usage { place: _ } => 2,
             Status::Document { which: _, fault: _ } => 3,
+            Status::Question { fault: _ } => 5,
             Status::ReadFault { which: _ } => 6,
             Status::WriteFault => 7,
             Status::Limit { which: _ } => 8,

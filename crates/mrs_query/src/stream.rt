@@ -6,9 +6,9 @@ ghost use Rattle.mrs_query.specs.End.{end_of};
 ghost use Rattle.mrs_query.specs.Pieces.{PieceEnds, PieceCause, Finished, Probed, status_of};
 
 use crate::lister::{push_lines, push_rest_line};
+use crate::release::Release;
 use crate::{Status, Which};
 use mrs_io::{Sink, Source, fill, write_whole};
-use mrs_schema::Plain;
 use std::alloc::{AllocError, Global};
 
 /// How many bytes of the stream are read at once: 16,384 words.
@@ -39,7 +39,7 @@ impl From<AllocError> for Stop {
 /// Reads one piece of the stream, which stands at an offset, and writes the lines of its whole words. Answers how
 /// many bytes it read: fewer than the buffer holds only at the end. `lines` and `leaves` are room that is used anew.
 fn list_piece<S: Source, K: Sink>(
-    plain: &Plain,
+    release: &Release,
     offset: u64,
     input: &mut S,
     out: &mut K,
@@ -48,7 +48,7 @@ fn list_piece<S: Source, K: Sink>(
     leaves: &mut Vec<u32>,
 ) -> Result<usize, Stop>
     requires { offset + length buffer.old < 2 ^ 64 }
-    ensures piece { PieceEnds plain.now offset (length buffer.new) (S.left input.old) (S.left input.new)
+    ensures piece { PieceEnds release.now offset (length buffer.new) (S.left input.old) (S.left input.new)
         (K.taken out.old) (K.taken out.new) buffer.new result }
     ensures cause { PieceCause (S.faults input.old) (S.faults input.new) (K.faults out.old) (K.faults out.new) result }
 {
@@ -56,7 +56,7 @@ fn list_piece<S: Source, K: Sink>(
         return Err(Stop::Input);
     };
     lines.clear();
-    push_lines(lines, plain, leaves, offset, &buffer[..n])?;
+    push_lines(lines, release, leaves, offset, &buffer[..n])?;
     if write_whole(out, lines).is_err() {
         return Err(Stop::Output);
     }
@@ -127,13 +127,13 @@ fn stop_status(stop: Stop) -> Status
 /// Lists the words of the stream through a buffer of one piece.
 fn list_pieces<S: Source, K: Sink>(
     alloc: Global,
-    plain: &Plain,
+    release: &Release,
     input: &mut S,
     out: &mut K,
     buffer: &mut [u8],
 ) -> Status
     requires { length buffer.old ≡ 65536 }
-    ensures { StreamEnds plain.now
+    ensures { StreamEnds release.now
         (record { left = S.left input.old; faults = S.faults input.old }) (record { left = S.left input.new; faults = S.faults input.new })
         (record { taken = K.taken out.old; faults = K.faults out.old }) (record { taken = K.taken out.new; faults = K.faults out.new })
         (end_of result) }
@@ -142,7 +142,7 @@ fn list_pieces<S: Source, K: Sink>(
     let mut leaves = Vec::new(alloc);
     for k in 0..PIECES {
         let offset = k * PIECE as u64;
-        let n = match list_piece(plain, offset, input, out, buffer, &mut lines, &mut leaves) {
+        let n = match list_piece(release, offset, input, out, buffer, &mut lines, &mut leaves) {
             Ok(n) => n,
             Err(stop) => return stop_status(stop),
         };
@@ -156,17 +156,17 @@ fn list_pieces<S: Source, K: Sink>(
 /// Lists the words of the stream: reads it to its end or to its limit, and writes the line of each word.
 pub(crate) fn list_stream<S: Source, K: Sink>(
     alloc: Global,
-    plain: &Plain,
+    release: &Release,
     input: &mut S,
     out: &mut K,
 ) -> Status
-    ensures { StreamEnds plain.now
+    ensures { StreamEnds release.now
         (record { left = S.left input.old; faults = S.faults input.old }) (record { left = S.left input.new; faults = S.faults input.new })
         (record { taken = K.taken out.old; faults = K.faults out.old }) (record { taken = K.taken out.new; faults = K.faults out.new })
         (end_of result) }
 {
     match vec![in alloc; 0u8; PIECE] {
-        Ok(mut buffer) => list_pieces(alloc, plain, input, out, buffer.as_mut_slice()),
+        Ok(mut buffer) => list_pieces(alloc, release, input, out, buffer.as_mut_slice()),
         Err(_) => Status::NoMemory,
     }
 }

@@ -2,13 +2,17 @@
 ghost use Rattle.std.specs.Prelude.{◌≡◌, map, string_bytes, []};
 ghost use Rattle.spec_run.specs.Outcome.{message};
 ghost use Rattle.spec_run.specs.Answers.{Performs, Answers, IsEarly, IsUsage};
+ghost use Rattle.mrs_query.specs.Ended.{CommandEnds};
 ghost use Rattle.mrs_query.specs.End.{end_of};
 
 use crate::Status;
-use crate::command::read_command;
 use crate::document::open_document;
+use crate::leaf::show_leaf;
 use crate::message::tell;
+use crate::release::Release;
+use crate::request::{insns_name, isa_name, leaf_label};
 use crate::stream::list_stream;
+use mrs_command::{Command, Verb, read_command};
 use mrs_io::{Shelf, Sink, Source};
 use std::alloc::Global;
 use std::thread::Threads;
@@ -26,8 +30,8 @@ fn perform<V: Shelf, S: Source, K: Sink>(
       words = map string_bytes words.now;
       documents = V.holds shelf.old;
       documents_after = V.holds shelf.new;
-      shelf = V.faults shelf.old;
-      shelf_after = V.faults shelf.new;
+      shelf_faults = V.faults shelf.old;
+      shelf_faults_after = V.faults shelf.new;
       input = record { left = S.left input.old; faults = S.faults input.old };
       input_after = record { left = S.left input.new; faults = S.faults input.new };
       out = record { taken = K.taken out.old; faults = K.faults out.old };
@@ -36,13 +40,33 @@ fn perform<V: Shelf, S: Source, K: Sink>(
     ensures early { IsEarly (end_of result) → (input.new ≡ input.old) × (out.new ≡ out.old) }
     ensures misused { IsUsage (end_of result) → shelf.new ≡ shelf.old }
 {
-    let insns = match read_command(words) {
-        Ok(insns) => insns,
-        Err(place) => return Status::Usage { place },
+    let command = match read_command(words) {
+        Ok(command) => command,
+        Err(bad) => return Status::Usage { place: bad.place },
     };
-    match open_document(alloc, shelf, insns) {
-        Ok(plain) => list_stream(alloc, &plain, input, out),
+    match open_document(alloc, shelf, insns_name(&command), isa_name(&command)) {
+        Ok(release) => answer(alloc, &command, &release, input, out),
         Err(status) => status,
+    }
+}
+
+/// Does what a command asks for by an accepted document.
+fn answer<S: Source, K: Sink>(
+    alloc: Global,
+    command: &Command<'_>,
+    release: &Release,
+    input: &mut S,
+    out: &mut K,
+) -> Status
+    ensures ends { CommandEnds command.now release.now
+        (record { left = S.left input.old; faults = S.faults input.old }) (record { left = S.left input.new; faults = S.faults input.new })
+        (record { taken = K.taken out.old; faults = K.faults out.old }) (record { taken = K.taken out.new; faults = K.faults out.new })
+        (end_of result) }
+    ensures early { IsEarly (end_of result) → (input.new ≡ input.old) × (out.new ≡ out.old) }
+{
+    match command.verb() {
+        Verb::List => list_stream(alloc, release, input, out),
+        Verb::Leaf => show_leaf(alloc, release, leaf_label(command), out),
     }
 }
 
@@ -50,7 +74,7 @@ fn perform<V: Shelf, S: Source, K: Sink>(
 /// and the stream from `input`, writes lines to `out` and one line on what went wrong to `err`, and answers how the
 /// run ended. Words of Arm A64 are 32 bits wide and little-endian.
 ///
-/// The status has its cause in `Answers`: the first of the words, the document and the stream that stops the run
+/// The status has its cause in `Answers`: the first of the words, the document, the label and the stream that stops the run
 /// decides. `NoMemory` may come in place of any answer but `Usage`.
 pub fn run<R: Threads + Sync, V: Shelf, S: Source, K: Sink, E: Sink>(
     rt: &R,
@@ -65,8 +89,8 @@ pub fn run<R: Threads + Sync, V: Shelf, S: Source, K: Sink, E: Sink>(
       words = map string_bytes words.now;
       documents = V.holds shelf.old;
       documents_after = V.holds shelf.new;
-      shelf = V.faults shelf.old;
-      shelf_after = V.faults shelf.new;
+      shelf_faults = V.faults shelf.old;
+      shelf_faults_after = V.faults shelf.new;
       input = record { left = S.left input.old; faults = S.faults input.old };
       input_after = record { left = S.left input.new; faults = S.faults input.new };
       out = record { taken = K.taken out.old; faults = K.faults out.old };
@@ -82,6 +106,6 @@ pub fn run<R: Threads + Sync, V: Shelf, S: Source, K: Sink, E: Sink>(
 {
     let _ = rt;
     let status = perform(alloc, words, shelf, input, out);
-    tell(err, status);
+    tell(err, &status);
     status
 }

@@ -1,3 +1,2 @@
 pub mod Exact
-pub mod Settings
 pub mod Worked

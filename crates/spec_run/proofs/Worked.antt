@@ -1,56 +1,46 @@
 -- Worked values: command lines, and documents that are refused.
-use Rattle.std.specs.Prelude.{◌≡◌, [], ◌∷◌, Ok, Err, codes, refl, ℕ, List, ◌++◌}
+use Rattle.std.specs.Prelude.{◌≡◌, [], ◌∷◌, Err, codes, refl, ℕ, List, ◌++◌}
 use Rattle.std.specs.Fmt.{digits}
 use Rattle.serde_json.specs.Read.{read}
 use Rattle.serde_json.proofs.OnLiterals.{serde_json_on_literals}
-use Rattle.spec_run.specs.Command.{ListWords, command}
-use Rattle.spec_run.specs.Outcome.{Outcome, opened, of_value, after_opening, Done, Ragged, Usage, Document, ReadFault, WriteFault, Limit, Insns, Input, Json, Outside, message}
+use Rattle.spec_command.specs.Verb.{Verb, ListWords, Leaf}
+use Rattle.spec_json.specs.Event.{Missing, UnlistedKind}
+use Rattle.spec_run.specs.Outcome.{Outcome, outcome, after_opening, of_value, Done, Ragged, Usage, Document, Question, NoLeaf, ReadFault, WriteFault, Limit, Insns, Input, Json, Schema, message}
 
-one_document : command (codes "list" ∷ codes "insns=a=b" ∷ []) ≡ Ok (ListWords (codes "a=b"))
-one_document = refl
-
-no_word : command [] ≡ Err 0
-no_word = refl
-
-other_command : command (codes "--help" ∷ []) ≡ Err 0
-other_command = refl
-
-no_document : command (codes "list" ∷ []) ≡ Err 1
-no_document = refl
-
-other_key : command (codes "list" ∷ codes "insns=i" ∷ codes "jobs=0" ∷ []) ≡ Err 2
-other_key = refl
-
-key_twice : command (codes "list" ∷ codes "insns=i" ∷ codes "insns=i" ∷ []) ≡ Err 2
-key_twice = refl
-
-empty_value : command (codes "list" ∷ codes "insns=" ∷ []) ≡ Err 1
-empty_value = refl
-
-no_equals : command (codes "list" ∷ codes "insns" ∷ []) ≡ Err 1
-no_equals = refl
-
-empty_object : of_value (read (codes "{}")) ≡ Err (Document Insns Outside)
+empty_object : of_value (codes "A64") (read (codes "{}")) ≡ Err (Document Insns (Schema (record { at = []; why = Missing (codes "instructions") })))
 unfolding digits serde_json_on_literals
 empty_object = refl
 
-not_json : of_value (read (codes "{")) ≡ Err (Document Insns Json)
+not_json : of_value (codes "A64") (read (codes "{")) ≡ Err (Document Insns Json)
 unfolding digits serde_json_on_literals
 not_json = refl
 
-not_there : opened (codes "list" ∷ codes "insns=d" ∷ []) ((codes "e", codes "{}") ∷ []) ≡ Err (ReadFault Insns)
+not_there : outcome (codes "list" ∷ codes "insns=d" ∷ []) ((codes "e", codes "{}") ∷ []) [] ≡ record { end = ReadFault Insns; out = [] }
 not_there = refl
+
+other_command : outcome (codes "--help" ∷ []) [] [] ≡ record { end = Usage 0; out = [] }
+other_command = refl
 
 refused_text : message (Usage 12) ≡ codes "usage 12\n"
 unfolding digits
 refused_text = refl
 
-outside_text : message (Document Insns Outside) ≡ codes "document insns outside\n"
-outside_text = refl
+missing_text : message (Document Insns (Schema (record { at = codes "/instructions/0"; why = Missing (codes "name") }))) ≡ codes "document insns missing:name /instructions/0\n"
+missing_text = refl
+
+kind_text : message (Document Insns (Schema (record { at = codes "/instructions/0/children/2"; why = UnlistedKind }))) ≡ codes "document insns kind /instructions/0/children/2\n"
+kind_text = refl
+
+leaf_text : message (Question NoLeaf) ≡ codes "leaf\n"
+leaf_text = refl
+
+-- a command, and the document that it names
+abbrev answer_to : Verb → List ℕ → List ℕ → List ℕ → Outcome
+answer_to verb label document bytes = after_opening (record { verb = verb; pairs = (codes "label", label) ∷ [] }) (of_value (codes "A64") (read document)) bytes
 
 -- a set without leaves, and a stream of one word
 abbrev of_stream : List ℕ → Outcome
-of_stream bytes = after_opening (of_value (read (codes "{\"instructions\":[{\"_type\":\"Instruction.InstructionSet\",\"name\":\"A64\"}]}"))) bytes
+of_stream bytes = answer_to ListWords [] (codes "{\"instructions\":[{\"_type\":\"Instruction.InstructionSet\",\"name\":\"A64\"}]}") bytes
 
 one_word : of_stream (0 ∷ 0 ∷ 0 ∷ 0 ∷ []) ≡ record { end = Done; out = codes "00000000 00000000 none\n" }
 unfolding digits serde_json_on_literals
@@ -75,3 +65,15 @@ write_text = refl
 
 json_text : message (Document Insns Json) ≡ codes "document insns json\n"
 json_text = refl
+
+-- two leaves of one name
+abbrev of_label : List ℕ → Outcome
+of_label label = answer_to Leaf label (codes "{\"instructions\":[{\"_type\":\"Instruction.InstructionSet\",\"name\":\"A64\",\"children\":[{\"_type\":\"Instruction.Instruction\",\"name\":\"DUP\"},{\"_type\":\"Instruction.Instruction\",\"name\":\"DUP\"}]}]}") []
+
+no_such_leaf : of_label (codes "DUP") ≡ record { end = Question NoLeaf; out = [] }
+unfolding digits serde_json_on_literals
+no_such_leaf = refl
+
+second_leaf : of_label (codes "DUP#1") ≡ record { end = Done; out = codes "leaf DUP#1\npath A64 DUP\nbits xxxxxxxxxxxxxxxxxxxxxxxxxxxxxxxx\n" }
+unfolding digits serde_json_on_literals
+second_leaf = refl

@@ -1,17 +1,20 @@
 -- What each status of a run says: its cause, the bytes on `out` and the text on `err`.
-use Rattle.std.specs.Prelude.{◌≡◌, ◌⊎◌, ℕ, ◌+◌, List, None, Ok, Err, IfSome, IsSomeAnd, IsErr, ◌≤◌, ⊤}
+use Rattle.std.specs.Prelude.{◌≡◌, ◌⊎◌, ℕ, ◌+◌, List, None, Ok, Err, IfSome, IsSomeAnd, ◌≤◌, ⊤}
 use Rattle.std.specs.Io.KnownBytes.{Keeps}
 use Rattle.spec_io.specs.Faults.{Rose}
 use Rattle.spec_io.specs.Documents.{document_of}
 use Rattle.spec_instructions.specs.Tree.{Own}
-use Rattle.spec_run.specs.Command.{ListWords, command}
-use Rattle.spec_run.specs.Outcome.{End, Done, Ragged, Usage, Document, ReadFault, WriteFault, Limit, NoMemory, Insns, Input, of_document, outcome, message, stream_limit}
-use Rattle.spec_run.specs.Scene.{Scene, Writing, TookPrefix, TookText, ReadsAtMost, Kept}
+use Rattle.spec_command.specs.Verb.{Verb, ListWords, Leaf}
+use Rattle.spec_command.specs.Command.{Command, command}
+use Rattle.spec_run.specs.Request.{insns_of, label_of}
+use Rattle.spec_run.specs.Outcome.{End, Done, Ragged, Usage, Document, Question, ReadFault, WriteFault, Limit, NoMemory, Insns, Input, opened, message, stream_limit}
+use Rattle.spec_run.specs.Scene.{Scene, Reading, Writing, TookText, ReadsAtMost, Kept}
 use Rattle.spec_run.specs.Streamed.{Streamed}
+use Rattle.spec_run.specs.Shown.{Shown}
 
--- the words are the command that lists by this document
-abbrev pub Lists : Scene → List ℕ → Type 0
-Lists s insns = command s.words ≡ Ok (ListWords insns)
+-- the words say this command
+abbrev pub Says : Scene → Command → Type 0
+Says s c = command s.words ≡ Ok c
 
 -- the source was not read, and nothing went out
 pub record Untouched (s : Scene) : Type 0 where
@@ -22,48 +25,57 @@ pub record Untouched (s : Scene) : Type 0 where
 -- the words are refused at this place
 pub record Misused (s : Scene) (place : ℕ) : Type 0 where
   pub cause : command s.words ≡ Err place
-  pub shelf : s.shelf_after ≡ s.shelf
+  pub shelf : s.shelf_faults_after ≡ s.shelf_faults
   pub untouched : Untouched s
 
--- the document, where the shelf tells it, decides before the stream
+-- the document, where the shelf tells it, decides before the question and the stream
 pub record DocumentDecides (s : Scene) (end : End) : Type 0 where
-  pub insns : List ℕ
-  pub lists : Lists s insns
-  pub cause : IfSome s.documents (λ docs. of_document (document_of insns docs) ≡ Err end)
+  pub asked : Command
+  pub says : Says s asked
+  pub cause : IfSome s.documents (λ docs. opened asked docs ≡ Err end)
+  pub shelf : s.shelf_faults_after ≡ s.shelf_faults
   pub untouched : Untouched s
 
 -- the shelf failed, or it tells its documents and holds none of that name
 pub record Unfetched (s : Scene) : Type 0 where
-  pub insns : List ℕ
-  pub lists : Lists s insns
-  pub cause : Rose s.shelf s.shelf_after ⊎ IsSomeAnd s.documents (λ docs. document_of insns docs ≡ None)
+  pub asked : Command
+  pub says : Says s asked
+  pub cause : Rose s.shelf_faults s.shelf_faults_after ⊎ IsSomeAnd s.documents (λ docs. document_of (insns_of asked) docs ≡ None)
   pub untouched : Untouched s
 
--- the document, where the shelf tells it, is accepted, and this became of the stream
-pub record StreamDecides (s : Scene) (end : End) : Type 0 where
-  pub insns : List ℕ
-  pub paths : List (List Own)
-  pub lists : Lists s insns
-  pub accepted : IfSome s.documents (λ docs. of_document (document_of insns docs) ≡ Ok paths)
-  pub streamed : Streamed paths s.input s.input_after s.out s.out_after end
+-- what a command makes of the paths: `list` lists the stream by them, and `leaf` shows one of them and reads no stream
+abbrev pub Follows : Verb → List ℕ → List (List Own) → Reading → Reading → Writing → Writing → End → Type 0
+Follows ListWords label paths input input_after out out_after end = Streamed paths input input_after out out_after end
+Follows Leaf label paths input input_after out out_after end = (input_after ≡ input) × Shown paths label out out_after end
 
--- want of memory, the one free answer: before the stream was looked at, or behind a part of its lines
+-- the document, where the shelf tells it, is accepted, and then the command decides
+pub record CommandDecides (s : Scene) (end : End) : Type 0 where
+  pub asked : Command
+  pub paths : List (List Own)
+  pub says : Says s asked
+  pub accepted : IfSome s.documents (λ docs. opened asked docs ≡ Ok paths)
+  pub shelf : s.shelf_faults_after ≡ s.shelf_faults
+  pub follows : Follows asked.verb (label_of asked) paths s.input s.input_after s.out s.out_after end
+
+-- want of memory, the one free answer: before the command was begun, or behind a part of what it puts out
 pub record OutOfMemory (s : Scene) : Type 0 where
-  pub insns : List ℕ
-  pub lists : Lists s insns
-  pub reached : Untouched s ⊎ StreamDecides s NoMemory
+  pub asked : Command
+  pub says : Says s asked
+  pub shelf : s.shelf_faults_after ≡ s.shelf_faults
+  pub reached : Untouched s ⊎ CommandDecides s NoMemory
 
 abbrev pub Means : End → Scene → Type 0
-Means Done s = StreamDecides s Done
-Means (Ragged rest) s = StreamDecides s (Ragged rest)
+Means Done s = CommandDecides s Done
+Means (Ragged rest) s = CommandDecides s (Ragged rest)
 Means (Usage place) s = Misused s place
 Means (Document Insns fault) s = DocumentDecides s (Document Insns fault)
 Means (Document Input fault) s = ⊥
+Means (Question fault) s = CommandDecides s (Question fault)
 Means (ReadFault Insns) s = Unfetched s
-Means (ReadFault Input) s = StreamDecides s (ReadFault Input)
-Means WriteFault s = StreamDecides s WriteFault
+Means (ReadFault Input) s = CommandDecides s (ReadFault Input)
+Means WriteFault s = CommandDecides s WriteFault
 Means (Limit Insns) s = DocumentDecides s (Limit Insns)
-Means (Limit Input) s = StreamDecides s (Limit Input)
+Means (Limit Input) s = CommandDecides s (Limit Input)
 Means NoMemory s = OutOfMemory s
 
 -- what a run that ends so did: its status has this meaning, at most one byte past the limit was read, documents are kept, and no count of faults has fallen
@@ -78,10 +90,11 @@ pub record Answers (end : End) (s : Scene) (err err_after : Writing) : Type 0 wh
   pub text : TookText err err_after (message end)
   pub count : err.faults ≤ err_after.faults
 
--- the run ended before the stream was looked at
+-- the run ended before the stream was looked at, and nothing went out
 abbrev pub IsEarly : End → Type 0
 IsEarly (Usage place) = ⊤
 IsEarly (Document which fault) = ⊤
+IsEarly (Question fault) = ⊤
 IsEarly (ReadFault Insns) = ⊤
 IsEarly (Limit Insns) = ⊤
 IsEarly end = ⊥

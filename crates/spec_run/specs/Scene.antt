@@ -19,8 +19,8 @@ pub record Scene : Type 0 where
   pub words : List (List ℕ)
   pub documents : Option (List Document)
   pub documents_after : Option (List Document)
-  pub shelf : ℕ
-  pub shelf_after : ℕ
+  pub shelf_faults : ℕ
+  pub shelf_faults_after : ℕ
   pub input : Reading
   pub input_after : Reading
   pub out : Writing
@@ -43,6 +43,6 @@ pub record ReadsAtMost (before after : Reading) (limit : ℕ) : Type 0 where
 -- the documents stand as before, and no count of faults has fallen
 pub record Kept (s : Scene) : Type 0 where
   pub documents : s.documents_after ≡ s.documents
-  pub shelf : s.shelf ≤ s.shelf_after
+  pub shelf : s.shelf_faults ≤ s.shelf_faults_after
   pub input : s.input.faults ≤ s.input_after.faults
   pub out : s.out.faults ≤ s.out_after.faults

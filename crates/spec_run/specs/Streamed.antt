@@ -4,7 +4,7 @@ use Rattle.std.specs.Io.KnownBytes.{Appends, Consumes, IsAtEnd}
 use Rattle.spec_io.specs.Faults.{Rose}
 use Rattle.spec_instructions.specs.Tree.{Own}
 use Rattle.spec_lines.specs.Listing.{words_in, listing}
-use Rattle.spec_run.specs.Outcome.{End, Done, Ragged, Usage, Document, ReadFault, WriteFault, Limit, NoMemory, Insns, Input, stream_outcome, stream_limit}
+use Rattle.spec_run.specs.Outcome.{End, Done, Ragged, Usage, Document, Question, ReadFault, WriteFault, Limit, NoMemory, Insns, Input, stream_outcome, stream_limit}
 use Rattle.spec_run.specs.Scene.{Reading, Writing, TookPrefix, ReadsAtMost}
 
 module _ (paths : List (List Own)) (input input_after : Reading) (out out_after : Writing) where
@@ -43,6 +43,7 @@ module _ (paths : List (List Own)) (input input_after : Reading) (out out_after 
   Streamed NoMemory = ListedPart
   Streamed (Usage place) = ⊥
   Streamed (Document which fault) = ⊥
+  Streamed (Question fault) = ⊥
   Streamed (ReadFault Insns) = ⊥
   Streamed (Limit Insns) = ⊥
 

@@ -2,7 +2,7 @@
 //! Definitions alone, in `specs/`, and laws about them, in `proofs/`.
 #![tactic(auto)]
 
-ghost use Rattle.spec_run.specs.Exact.{AnswersAreExact, RunsComplete};
+ghost use Rattle.spec_run.specs.Exact.{AnswersAreExact, RunsComplete, FaultsComeLate, PrefixesGoOut};
 
 /// A law on what statuses say: over a shelf and a source that tell their contents, every status that is neither a
 /// fault of the outside nor want of memory is that of the outcome, and exactly the outcome's bytes went out.
@@ -14,4 +14,16 @@ pub fn answers_are_exact()
 /// source or sink rose, the run ends as the outcome does, or memory ran out.
 pub fn runs_complete()
     ensures { RunsComplete }
+{}
+
+/// A law on what statuses say: over a shelf and a source that tell their contents, a fault of the stream or of the sink
+/// for lines comes only where neither the words nor the document nor the label decide.
+pub fn faults_come_late()
+    ensures { FaultsComeLate }
+{}
+
+/// A law on what statuses say: over a shelf and a source that tell their contents, a prefix of the outcome's bytes went
+/// out after a failed write, and when memory ran out.
+pub fn prefixes_go_out()
+    ensures { PrefixesGoOut }
 {}

@@ -5,4 +5,4 @@ use Rattle.mrs_query.proofs.Chain.{found-within}
 use Rattle.mrs_query.proofs.matches.find_leaves.Goals as goal
 
 pub returns-clause-within : goal.returns-clause-within
-returns-clause-within c = let all : c.loop-k.leaves.items ≡ found c.args.plain.now c.args.word = grind (arith, common_steps) in found-within c.args.plain.now c.args.word c.loop-k.leaves.items all
+returns-clause-within c = let all : c.loop-k.leaves.items ≡ found c.args.release.now c.args.word = grind (arith, common_steps) in found-within c.args.release.now c.args.word c.loop-k.leaves.items all

@@ -3,4 +3,4 @@ use Rattle.spec_decode.specs.Found.{found_from}
 use Rattle.mrs_query.proofs.matches.find_leaves.Given as goal
 
 abbrev pub invariant-loop-k : goal.invariant-loop-k
-invariant-loop-k l = l.leaves.items ++ found_from l.k (drop l.k l.plain) l.word ≡ found_from 0 l.plain l.word
+invariant-loop-k l = l.leaves.items ++ found_from l.k (drop l.k l.release) l.word ≡ found_from 0 l.release l.word

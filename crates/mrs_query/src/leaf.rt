@@ -1,0 +1,99 @@
+//! Shows one leaf.
+
+ghost use Rattle.std.specs.Prelude.{◌≡◌, ◌++◌, ◌<◌, ◌≤◌, length, map, OnOk, option_map};
+ghost use Rattle.bit_pattern.specs.Digits.{digit_at, digits_below};
+ghost use Rattle.bit_pattern.specs.Views.{digits_of};
+ghost use Rattle.spec_lines.specs.Leaf.{bits_text, leaf_text, digit_text};
+ghost use Rattle.spec_run.specs.Answers.{IsEarly};
+ghost use Rattle.spec_run.specs.Shown.{Shown};
+ghost use Rattle.mrs_query.specs.End.{end_of};
+
+use crate::label::push_label;
+use crate::release::Release;
+use crate::status::{QuestionFault, Status};
+use bit_pattern::Pattern;
+use mrs_io::{Sink, write_whole};
+use std::alloc::{AllocError, Global};
+
+/// Writes the lines of the leaf with that label.
+pub(crate) fn show_leaf<K: Sink>(
+    alloc: Global,
+    release: &Release,
+    label: &str,
+    out: &mut K,
+) -> Status
+    ensures shown { Shown release.now label.now
+        (record { taken = K.taken out.old; faults = K.faults out.old }) (record { taken = K.taken out.new; faults = K.faults out.new })
+        (end_of result) }
+    ensures count { K.faults out.old ≤ K.faults out.new }
+    ensures early { IsEarly (end_of result) → out.new ≡ out.old }
+{
+    let Some(k) = release.find_label(label) else {
+        return Status::Question {
+            fault: QuestionFault::NoLeaf,
+        };
+    };
+    let mut lines = Vec::new(alloc);
+    if push_leaf(&mut lines, release, k).is_err() {
+        return Status::NoMemory;
+    }
+    match write_whole(out, &lines) {
+        Ok(()) => Status::Done,
+        Err(_) => Status::WriteFault,
+    }
+}
+
+/// Appends the lines of a leaf: its label, the names along its path, and the bits that its path fixes.
+fn push_leaf(out: &mut Vec<u8>, release: &Release, k: u32) -> Result<(), AllocError>
+    requires { k < length release.now }
+    ensures { OnOk result (out.new.items ≡ out.old.items ++ leaf_text release.now k) }
+{
+    out.extend_from_slice(b"leaf ")?;
+    push_label(out, release, k)?;
+    out.extend_from_slice(b"\npath")?;
+    release.push_path(out, k)?;
+    out.extend_from_slice(b"\nbits ")?;
+    push_bits(out, release.merged(k))?;
+    out.push(b'\n')?;
+    Ok(())
+}
+
+/// Appends the 32 digits of a pattern, or that there is none.
+fn push_bits(out: &mut Vec<u8>, bits: Option<Pattern>) -> Result<(), AllocError>
+    ensures { OnOk result (out.new.items ≡ out.old.items ++ bits_text (option_map digits_of bits)) }
+{
+    match bits {
+        Some(pattern) => push_digits(out, &pattern, pattern.width),
+        None => {
+            out.extend_from_slice(b"clash")?;
+            Ok(())
+        }
+    }
+}
+
+/// Appends the digits of the bits below `below`, the highest first.
+#[cycle(digits)]
+fn push_digits(out: &mut Vec<u8>, pattern: &Pattern, below: u8) -> Result<(), AllocError>
+    requires { below ≤ 128 }
+    ensures { OnOk result (out.new.items ≡ out.old.items ++ map digit_text (digits_below pattern.now.mask pattern.now.value below)) }
+{
+    if below == 0 {
+        return Ok(());
+    }
+    out.push(digit_byte(pattern, below - 1))?;
+    push_digits(out, pattern, below - 1)
+}
+
+/// The digit of bit `i`: `0`, `1` or `x`.
+fn digit_byte(pattern: &Pattern, i: u8) -> u8
+    requires { i < 128 }
+    ensures { result ≡ digit_text (digit_at pattern.now.mask pattern.now.value i) }
+{
+    if (pattern.mask >> i) % 2 == 0 {
+        b'x'
+    } else if (pattern.value >> i) % 2 == 0 {
+        b'0'
+    } else {
+        b'1'
+    }
+}
