@@ -2,7 +2,7 @@
 use Rattle.std.specs.Prelude.{◌≤◌, ℕ, List, [], Option, Result, Ok, Err}
 use Rattle.std.specs.Io.KnownBytes.{Appends}
 use Rattle.spec_io.specs.Faults.{Rose}
-use Rattle.spec_json.specs.Event.{Why, Missing}
+use Rattle.spec_walk.specs.Event.{Why, Missing}
 use Rattle.mrs_io.specs.Pieces.{AppendsPart}
 use Rattle.mrs_io.specs.declared.fault.Failed.{Failed}
 

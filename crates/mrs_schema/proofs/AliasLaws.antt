@@ -8,9 +8,9 @@ use Rattle.serde_json.specs.Data.{Data, null, boolean, number, string, array, ob
 use Rattle.serde_json.specs.Find.{get, get_member, as_str}
 use Rattle.serde_json.specs.View.{view, items_view}
 use Rattle.serde_json.specs.declared.value.Value.{Value}
-use Rattle.spec_json.specs.Pointer.{under, element}
-use Rattle.spec_json.specs.Event.{Event, WrongShape, NotYet}
-use Rattle.spec_json.specs.Members.{in_object, in_array, typed, optional_value, optional}
+use Rattle.spec_walk.specs.Pointer.{under, element}
+use Rattle.spec_walk.specs.Event.{Event, WrongShape, NotYet}
+use Rattle.spec_walk.specs.Members.{in_object, in_array, typed, optional_value, optional}
 use Rattle.spec_instructions.specs.Kind.{Kind, Leaf, Alias, Instance, kind_text, kinds_in, kind_named, kind_among}
 use Rattle.spec_instructions.specs.Walk.{child_events, kinds_below, named_items, node_events, children_events, nodes_events}
 use Rattle.spec_instructions.specs.Tree.{Nodes, no_nodes, placed, node_of, nodes_in}

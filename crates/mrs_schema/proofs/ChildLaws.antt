@@ -5,10 +5,10 @@ use Rattle.std.specs.Ordering.{nat_cmp, match_ordering}
 use Rattle.std.specs.Cmp.Lexicographic.{slice_cmp}
 use Rattle.serde_json.specs.Data.{Data, null, boolean, number, string, array, object, Items, Members, no_members, member}
 use Rattle.serde_json.specs.Find.{get_member}
-use Rattle.spec_json.specs.Pointer.{under}
-use Rattle.spec_json.specs.Event.{Event}
-use Rattle.spec_json.specs.Limits.{Counts, judged}
-use Rattle.spec_json.specs.Members.{in_object, in_array, typed, optional_value, optional}
+use Rattle.spec_walk.specs.Pointer.{under}
+use Rattle.spec_walk.specs.Event.{Event}
+use Rattle.spec_walk.specs.Limits.{Counts, judged}
+use Rattle.spec_walk.specs.Members.{in_object, in_array, typed, optional_value, optional}
 use Rattle.spec_instructions.specs.Kind.{Kind, kinds_in, kind_named, kind_among}
 use Rattle.spec_instructions.specs.Walk.{child_events, kinds_below, named_items, node_events, children_events, list_events, nodes_events}
 use Rattle.spec_instructions.specs.Tree.{node, Nodes, own_of, node_of, child_nodes, nodes_of, nodes_in}

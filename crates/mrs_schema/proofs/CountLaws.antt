@@ -3,8 +3,8 @@ use Rattle.std.proofs.Common.{◌≡◌, ◌∙◌, sym, ap, refl, ℕ, ◌+◌,
 use Rattle.std.specs.Prelude.{count_by}
 use Rattle.std.proofs.lemmas.Bool.{or_parts}
 use Rattle.std.proofs.lemmas.List.{length-map, length_push}
-use Rattle.spec_json.specs.Event.{TooMany, Fault, Event, OneMore, ALeaf, AnAlias}
-use Rattle.spec_json.specs.Limits.{Counts, judged, ◌>>=◌}
+use Rattle.spec_walk.specs.Event.{TooMany, Fault, Event, OneMore, ALeaf, AnAlias}
+use Rattle.spec_walk.specs.Limits.{Counts, judged, ◌>>=◌}
 use Rattle.spec_instructions.specs.Walk.{counted}
 use Rattle.mrs_arena.specs.declared.kind.Kind.{Kind}
 use Rattle.mrs_arena.specs.declared.kind.Kind.TheVariants.{Set, Group, Leaf, Alias}

@@ -5,9 +5,9 @@ use Rattle.std.specs.List.{list_any}
 use Rattle.std.proofs.lemmas.Bool.{leb-false, leb-true, le-leb, lt-leb, lt-ltb, le-ltb, or_parts, and_left, and_right}
 use Rattle.std.proofs.lemmas.List.{map_push, map-append, length-map}
 use Rattle.std.proofs.lemmas.List.Elements.{All-nil, All-head, All-tail}
-use Rattle.spec_json.specs.Event.{TooMany, Fault}
-use Rattle.spec_json.specs.Limits.{Counts, judged}
-use Rattle.spec_json.specs.Members.{unless}
+use Rattle.spec_walk.specs.Event.{TooMany, Fault}
+use Rattle.spec_walk.specs.Limits.{Counts, judged}
+use Rattle.spec_walk.specs.Members.{unless}
 use Rattle.spec_instructions.specs.Encodeset.{within_limits}
 use Rattle.mrs_names.specs.Texts.{place_of, AreNames}
 use Rattle.mrs_names.specs.declared.name_id.NameId.{NameId}

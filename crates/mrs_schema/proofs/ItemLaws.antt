@@ -8,9 +8,9 @@ use Rattle.spec_bits.specs.Item.{Item}
 use Rattle.spec_bits.specs.PatternText.{PatternRefusal, pattern_in}
 use Rattle.spec_bits.specs.Pattern.{Digit}
 use Rattle.std.proofs.Common.{Result, Ok, Err}
-use Rattle.spec_json.specs.Limits.{Counts, judged}
-use Rattle.spec_json.specs.Event.{Event, BadPattern, BadRange, WrongShape}
-use Rattle.spec_json.specs.Members.{in_object, in_text, needed, typed, whole_number, unless}
+use Rattle.spec_walk.specs.Limits.{Counts, judged}
+use Rattle.spec_walk.specs.Event.{Event, BadPattern, BadRange, WrongShape}
+use Rattle.spec_walk.specs.Members.{in_object, in_text, needed, typed, whole_number, unless}
 use Rattle.spec_instructions.specs.Encodeset.{ItemKind, Bits, Field, ShouldBeBits, text_at, item_kind, item_kind_named, is_range, number_at, number_events, range_events, pattern_events, value_events, range_and_value, mask_events, width_of, item_parts, within_limits, names_of_kind, field_names, item_events}
 use Rattle.spec_instructions.specs.EncodesetItems.{digits_at, marked_by, start_of, item_in}
 use Rattle.mrs_names.specs.declared.name_id.NameId.{NameId}

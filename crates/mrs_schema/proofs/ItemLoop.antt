@@ -10,10 +10,10 @@ use Rattle.serde_json.specs.Find.{get}
 use Rattle.serde_json.specs.View.{view, items_view}
 use Rattle.serde_json.specs.declared.value.Value.{Value}
 use Rattle.spec_bits.specs.Item.{Item}
-use Rattle.spec_json.specs.Pointer.{under, element}
-use Rattle.spec_json.specs.Event.{Event, WrongShape}
-use Rattle.spec_json.specs.Limits.{judged}
-use Rattle.spec_json.specs.Members.{in_object, in_array, needed, typed}
+use Rattle.spec_walk.specs.Pointer.{under, element}
+use Rattle.spec_walk.specs.Event.{Event, WrongShape}
+use Rattle.spec_walk.specs.Limits.{judged}
+use Rattle.spec_walk.specs.Members.{in_object, in_array, needed, typed}
 use Rattle.spec_instructions.specs.Encodeset.{ItemKind, Bits, Field, ShouldBeBits, item_kind, names_of_kind, field_names, item_events, items_events, width_events, encodeset_events}
 use Rattle.spec_instructions.specs.EncodesetItems.{item_name, item_in, items_in, items_of_array}
 use Rattle.mrs_names.specs.Texts.{IsExtended}

@@ -3,9 +3,9 @@ use Rattle.std.proofs.Common.{◌≡◌, ◌∙◌, sym, ap, refl, ℕ, List, []
 use Rattle.std.specs.Option.{option_or}
 use Rattle.serde_json.specs.Data.{Data, null, boolean, number, string, array, object, Members}
 use Rattle.serde_json.specs.Find.{get, get_member, as_str}
-use Rattle.spec_json.specs.Pointer.{under}
-use Rattle.spec_json.specs.Event.{Event}
-use Rattle.spec_json.specs.Members.{in_object, in_text, needed_value, needed, optional_value, optional}
+use Rattle.spec_walk.specs.Pointer.{under}
+use Rattle.spec_walk.specs.Event.{Event}
+use Rattle.spec_walk.specs.Members.{in_object, in_text, needed_value, needed, optional_value, optional}
 use Rattle.spec_instructions.specs.Encodeset.{text_at}
 use Rattle.mrs_schema.specs.Gives.{first_wrong}
 use Rattle.mrs_schema.specs.Members.{members_of, nothing, present}

@@ -3,8 +3,8 @@ use Rattle.std.proofs.Common.{◌≡◌, ◌∙◌, sym, ap, ℕ, ◌+◌, ◌<�
 use Rattle.std.proofs.lemmas.List.{at_drop_all}
 use Rattle.serde_json.specs.View.{view, items_view}
 use Rattle.serde_json.specs.declared.value.Value.{Value}
-use Rattle.spec_json.specs.Pointer.{element}
-use Rattle.spec_json.specs.Limits.{judged}
+use Rattle.spec_walk.specs.Pointer.{element}
+use Rattle.spec_walk.specs.Limits.{judged}
 use Rattle.spec_instructions.specs.Kind.{Kind, Group, Instance, kinds_in, kind_among}
 use Rattle.spec_instructions.specs.Walk.{node_events, nodes_events}
 use Rattle.spec_instructions.specs.Tree.{Nodes, node_of, nodes_in}

@@ -6,9 +6,9 @@ use Rattle.std.specs.Str.{bytes_eq}
 use Rattle.serde_json.specs.Data.{Data, null, boolean, number, string, array, object, Members}
 use Rattle.serde_json.specs.Find.{get}
 use Rattle.spec_bits.specs.PatternText.{pattern_in}
-use Rattle.spec_json.specs.Pointer.{under}
-use Rattle.spec_json.specs.Event.{Event, UnlistedKind}
-use Rattle.spec_json.specs.Members.{in_object, in_text, needed, typed, unless}
+use Rattle.spec_walk.specs.Pointer.{under}
+use Rattle.spec_walk.specs.Event.{Event, UnlistedKind}
+use Rattle.spec_walk.specs.Members.{in_object, in_text, needed, typed, unless}
 use Rattle.spec_instructions.specs.Kind.{Set, kind_named}
 use Rattle.spec_instructions.specs.Encodeset.{value_events, pattern_events, text_at, range_events, range_and_value, mask_events, width_of, width_events}
 use Rattle.spec_instructions.specs.EncodesetItems.{text_digits, digits_at}

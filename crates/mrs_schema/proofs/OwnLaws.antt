@@ -2,10 +2,10 @@
 use Rattle.std.proofs.Common.{◌≡◌, ◌∙◌, sym, ap, refl, ℕ, ◌+◌, ◌-◌, List, [], ◌∷◌, ◌++◌, length, length-append, add-zero, Option, Some, None, unwrap_or, Ok, codes, arith}
 use Rattle.serde_json.specs.Data.{Data, null, boolean, number, string, array, object, Members}
 use Rattle.serde_json.specs.Find.{get}
-use Rattle.spec_json.specs.Pointer.{under}
-use Rattle.spec_json.specs.Event.{Event, NotYet}
-use Rattle.spec_json.specs.Limits.{Counts, judged}
-use Rattle.spec_json.specs.Members.{wrong, in_text, needed, optional}
+use Rattle.spec_walk.specs.Pointer.{under}
+use Rattle.spec_walk.specs.Event.{Event, NotYet}
+use Rattle.spec_walk.specs.Limits.{Counts, judged}
+use Rattle.spec_walk.specs.Members.{wrong, in_text, needed, optional}
 use Rattle.spec_instructions.specs.Kind.{Kind}
 use Rattle.spec_instructions.specs.Encodeset.{text_at, encodeset_events}
 use Rattle.spec_instructions.specs.EncodesetItems.{encodeset_items}

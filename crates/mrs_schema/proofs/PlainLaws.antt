@@ -2,9 +2,9 @@
 use Rattle.std.proofs.Common.{◌∙◌, sym, ap, refl, ℕ, List, [], ◌++◌, Bool, true, false, Option, Some, None, Ok, codes}
 use Rattle.serde_json.specs.Data.{Data, null, boolean, number, string, array, object, Items, Members}
 use Rattle.serde_json.specs.Find.{get_member}
-use Rattle.spec_json.specs.Pointer.{under}
-use Rattle.spec_json.specs.Event.{Why, Missing, UnlistedKind, WrongShape, Event}
-use Rattle.spec_json.specs.Members.{wrong, unless, in_object, in_array, in_text, needed_value, needed, optional_value, optional, typed}
+use Rattle.spec_walk.specs.Pointer.{under}
+use Rattle.spec_walk.specs.Event.{Why, Missing, UnlistedKind, WrongShape, Event}
+use Rattle.spec_walk.specs.Members.{wrong, unless, in_object, in_array, in_text, needed_value, needed, optional_value, optional, typed}
 use Rattle.mrs_schema.specs.Gives.{first_wrong}
 use Rattle.mrs_schema.proofs.WalkLaws.{first_wrong-append, fails_or, fails_or-or, IsPlain, judged-plain}
 

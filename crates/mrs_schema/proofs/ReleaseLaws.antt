@@ -3,7 +3,7 @@ use Rattle.std.proofs.Common.{◌≡◌, ◌∙◌, sym, ap, refl, ℕ, ◌+◌,
 use Rattle.std.specs.List.{fold}
 use Rattle.std.proofs.lemmas.List.{length-map}
 use Rattle.serde_json.specs.Data.{Data}
-use Rattle.spec_json.specs.Limits.{judged}
+use Rattle.spec_walk.specs.Limits.{judged}
 use Rattle.spec_instructions.specs.Walk.{instructions_events}
 use Rattle.spec_instructions.specs.Tree.{Node, document_set}
 use Rattle.spec_instructions.specs.Paths.{paths_of_set, document_paths}

@@ -5,10 +5,10 @@ use Rattle.serde_json.specs.Data.{Data, Items, Members}
 use Rattle.serde_json.specs.Find.{get}
 use Rattle.serde_json.specs.View.{view, items_view}
 use Rattle.serde_json.specs.declared.value.Value.{Value}
-use Rattle.spec_json.specs.Pointer.{under, element}
-use Rattle.spec_json.specs.Event.{Event, BadName, Doubled}
-use Rattle.spec_json.specs.Limits.{Counts, judged}
-use Rattle.spec_json.specs.Members.{in_object, in_array, in_text, needed, typed, unless}
+use Rattle.spec_walk.specs.Pointer.{under, element}
+use Rattle.spec_walk.specs.Event.{Event, BadName, Doubled}
+use Rattle.spec_walk.specs.Limits.{Counts, judged}
+use Rattle.spec_walk.specs.Members.{in_object, in_array, in_text, needed, typed, unless}
 use Rattle.spec_instructions.specs.Kind.{Set, kinds_in, kind_named}
 use Rattle.spec_instructions.specs.Name.{is_name}
 use Rattle.spec_instructions.specs.Walk.{named_items, is_chosen, own_events, children_events, set_name_events, set_parts, set_events, sets_events}

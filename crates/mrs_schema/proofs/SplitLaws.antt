@@ -2,10 +2,10 @@
 use Rattle.std.proofs.Common.{◌≡◌, ◌∙◌, sym, ap, refl, ℕ, List, [], ◌++◌, Option, Some, None}
 use Rattle.serde_json.specs.Data.{Data, null, boolean, number, string, array, object, Items, no_items, Members}
 use Rattle.serde_json.specs.Find.{get, get_member}
-use Rattle.spec_json.specs.Pointer.{under}
-use Rattle.spec_json.specs.Event.{Event}
-use Rattle.spec_json.specs.Limits.{Counts, judged}
-use Rattle.spec_json.specs.Members.{in_object, in_array, needed_value, needed, optional_value, optional}
+use Rattle.spec_walk.specs.Pointer.{under}
+use Rattle.spec_walk.specs.Event.{Event}
+use Rattle.spec_walk.specs.Limits.{Counts, judged}
+use Rattle.spec_walk.specs.Members.{in_object, in_array, needed_value, needed, optional_value, optional}
 use Rattle.mrs_schema.specs.Children.{elements_of}
 use Rattle.mrs_schema.specs.Gives.{first_wrong, Fails}
 use Rattle.mrs_schema.specs.Members.{members_of, items_of, nothing}

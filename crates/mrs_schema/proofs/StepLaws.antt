@@ -1,8 +1,8 @@
 -- Laws of answers: what one reader gave is what the walk around it gives.
 use Rattle.std.proofs.Common.{◌≡◌, ◌∙◌, sym, ap, subst, List, ◌++◌, Option, Result, Ok, Err}
 use Rattle.std.specs.Result.{IsErrAnd}
-use Rattle.spec_json.specs.Event.{Event, Fault}
-use Rattle.spec_json.specs.Limits.{Counts, ◌>>=◌, judged}
+use Rattle.spec_walk.specs.Event.{Event, Fault}
+use Rattle.spec_walk.specs.Limits.{Counts, ◌>>=◌, judged}
 use Rattle.mrs_schema.specs.Faults.{fault_of}
 use Rattle.mrs_schema.specs.Gives.{first_wrong, Fails, Gives}
 use Rattle.mrs_schema.specs.Drafted.{Passes}

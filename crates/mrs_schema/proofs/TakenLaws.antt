@@ -6,8 +6,8 @@ use Rattle.std.proofs.lemmas.Bool.{eq-eqb, eqb-true}
 use Rattle.std.proofs.lemmas.List.Elements.{All-head, All-tail}
 use Rattle.std.proofs.lemmas.Option.{slice_get-get_or, get_or_from_slice_get}
 use Rattle.std.proofs.lemmas.Slice.Eq.{bytes_eq-Decides}
-use Rattle.spec_json.specs.Event.{TooMany, Fault, Name}
-use Rattle.spec_json.specs.Limits.{Counts, judged, ◌>>=◌}
+use Rattle.spec_walk.specs.Event.{TooMany, Fault, Name}
+use Rattle.spec_walk.specs.Limits.{Counts, judged, ◌>>=◌}
 use Rattle.mrs_names.specs.Texts.{place_of, with_name, is_refused, AreDistinct}
 use Rattle.mrs_names.proofs.PlaceLaws.{place_of-at, with_name-new, with_name-held}
 use Rattle.mrs_arena.specs.Flat.{FlatItem}

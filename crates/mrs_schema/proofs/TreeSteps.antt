@@ -1,8 +1,8 @@
 -- Answers on a node and those below it.
 use Rattle.std.proofs.Common.{◌≡◌, sym, ap, ℕ, ◌+◌, List, ◌++◌, length, Option, Some, Result, Ok}
 use Rattle.serde_json.specs.Data.{Data}
-use Rattle.spec_json.specs.Event.{Event}
-use Rattle.spec_json.specs.Limits.{Counts, judged}
+use Rattle.spec_walk.specs.Event.{Event}
+use Rattle.spec_walk.specs.Limits.{Counts, judged}
 use Rattle.spec_instructions.specs.Kind.{Kind, Leaf, kinds_in}
 use Rattle.spec_instructions.specs.Walk.{own_events, children_events, named_items}
 use Rattle.spec_instructions.specs.Tree.{no_nodes, node_of, child_nodes}

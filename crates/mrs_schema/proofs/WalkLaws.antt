@@ -1,8 +1,8 @@
 -- Laws of walks in a row: their first faults, and what they make of the counts.
 use Rattle.std.proofs.Common.{◌≡◌, ◌∙◌, sym, ap, refl, subst, List, [], ◌∷◌, ◌++◌, Option, Some, None, Result, Ok, Err}
 use Rattle.std.specs.Option.{option_or}
-use Rattle.spec_json.specs.Event.{Event, Name, OneMore, Wrong, Fault}
-use Rattle.spec_json.specs.Limits.{Counts, after, ◌>>=◌, judged}
+use Rattle.spec_walk.specs.Event.{Event, Name, OneMore, Wrong, Fault}
+use Rattle.spec_walk.specs.Limits.{Counts, after, ◌>>=◌, judged}
 use Rattle.mrs_schema.specs.Gives.{first_wrong, Fails}
 use Rattle.mrs_schema.specs.declared.fault.ReadFault.{ReadFault}
 use Rattle.mrs_schema.specs.declared.fault.ReadFault.TheVariants.{Schema, NoMemory}

@@ -1,8 +1,8 @@
 -- What a walk has put so far: the names that are held, and the nodes with the texts of their names.
 use Rattle.std.specs.Prelude.{◌≡◌, ℕ, ◌-◌, Bool, true, false, List, [], ◌∷◌, ◌++◌, length, map, flat_map, count_by, slice_index_or, Option, is_some, Result, Ok, Err, ⊤}
 use Rattle.spec_bits.specs.Item.{Item}
-use Rattle.spec_json.specs.Event.{Event, Fault}
-use Rattle.spec_json.specs.Limits.{Counts, judged}
+use Rattle.spec_walk.specs.Event.{Event, Fault}
+use Rattle.spec_walk.specs.Limits.{Counts, judged}
 use Rattle.spec_instructions.specs.Kind as kind
 use Rattle.spec_instructions.specs.Kind.{Kind}
 use Rattle.mrs_arena.specs.Paths.{ancestors}

@@ -1,7 +1,7 @@
 -- What this crate's faults stand for.
 use Rattle.bit_pattern.specs.Views.{refusal_of}
-use Rattle.spec_json.specs.Event as event
-use Rattle.spec_json.specs.Event.{Fault}
+use Rattle.spec_walk.specs.Event as event
+use Rattle.spec_walk.specs.Event.{Fault}
 use Rattle.mrs_schema.specs.declared.fault.Why.{Why}
 use Rattle.mrs_schema.specs.declared.fault.Why.TheVariants.{Missing, UnlistedKind, WrongShape, BadPattern, BadRange, BadName, Doubled, TooMany, NoSet, NotYet}
 use Rattle.mrs_schema.specs.declared.fault.SchemaFault.{SchemaFault}

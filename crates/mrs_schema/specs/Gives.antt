@@ -3,7 +3,7 @@ use Rattle.std.specs.Prelude.{◌≡◌, ℕ, List, [], ◌∷◌, Option, Some,
 use Rattle.serde_json.specs.Data.{Data}
 use Rattle.serde_json.specs.View.{view}
 use Rattle.serde_json.specs.declared.value.Value.{Value}
-use Rattle.spec_json.specs.Event.{Event, Name, OneMore, Wrong, Fault}
+use Rattle.spec_walk.specs.Event.{Event, Name, OneMore, Wrong, Fault}
 use Rattle.mrs_schema.specs.Faults.{fault_of}
 use Rattle.mrs_schema.specs.Pointers.{pointer}
 use Rattle.mrs_schema.specs.declared.fault.ReadFault.{ReadFault}

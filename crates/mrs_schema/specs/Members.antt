@@ -1,7 +1,7 @@
 -- Members of a value, and the parts of a walk that come before a value is read further.
 use Rattle.std.specs.Prelude.{ℕ, List, [], Option, Some, None, option_and_then}
 use Rattle.serde_json.specs.Data.{Data, null, boolean, number, string, array, object, Items, no_items, Members, no_members}
-use Rattle.spec_json.specs.Event.{Event}
+use Rattle.spec_walk.specs.Event.{Event}
 
 -- the members of a value, which only an object has, and the elements, which only an array has
 abbrev pub members_of : Data → Members

@@ -1,6 +1,6 @@
 -- The JSON Pointer of a place.
 use Rattle.std.specs.Prelude.{ℕ, List, []}
-use Rattle.spec_json.specs.Pointer.{under, element}
+use Rattle.spec_walk.specs.Pointer.{under, element}
 use Rattle.mrs_schema.specs.declared.place.Place.{Place, Root, Member', Element'}
 
 abbrev pub pointer : Place → List ℕ

@@ -1,7 +1,7 @@
 -- What reading an Instructions document gives: an arena for the nested tree of its chosen set, or the first fault.
 use Rattle.std.specs.Prelude.{◌≡◌, ℕ, List, length, Some, Result, Ok, Err, ⊤}
 use Rattle.serde_json.specs.Data.{Data}
-use Rattle.spec_json.specs.Limits.{Counts, from_held, judged}
+use Rattle.spec_walk.specs.Limits.{Counts, from_held, judged}
 use Rattle.spec_instructions.specs.Tree.{Node, document_set}
 use Rattle.spec_instructions.specs.Walk.{instructions_events}
 use Rattle.spec_instructions.specs.Paths.{document_paths}

@@ -2,7 +2,7 @@
 
 ghost use Rattle.std.specs.Prelude.{◌≡◌, ◌++◌, ◌≤◌, ◌+◌, bit_and, codes, map, option_map, None};
 ghost use Rattle.serde_json.specs.Find.{get};
-ghost use Rattle.spec_json.specs.Members.{needed, optional};
+ghost use Rattle.spec_walk.specs.Members.{needed, optional};
 ghost use Rattle.spec_instructions.specs.Encodeset.{range_events, value_events, range_and_value, mask_events, width_of};
 ghost use Rattle.spec_instructions.specs.EncodesetItems.{digits_at, marked_by, is_binary, start_of};
 ghost use Rattle.bit_pattern.specs.Views.{digits_of};

@@ -30,7 +30,7 @@ impl Model for Draft {
 impl Draft {
     ghost use Rattle.std.specs.Prelude.{◌≡◌, ◌+◌, ◌<◌, [], ◌∷◌, ◌++◌, length, map, option_map, option_to_list, IfSome, bytes_eq, is_some, false};
     ghost use Rattle.std.specs.List.{list_any};
-    ghost use Rattle.spec_json.specs.Event.{Name};
+    ghost use Rattle.spec_walk.specs.Event.{Name};
     ghost use Rattle.spec_instructions.specs.Encodeset.{within_limits};
     ghost use Rattle.spec_instructions.specs.Walk.{counted};
     ghost use Rattle.mrs_names.specs.Texts.{IsExtended};

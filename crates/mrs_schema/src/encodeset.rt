@@ -3,7 +3,7 @@
 ghost use Rattle.std.specs.Prelude.{◌≡◌, ◌<◌, ◌++◌, [], ◌∷◌, Some, bytes_eq, codes, length, ⊤};
 ghost use Rattle.serde_json.specs.Find.{get};
 ghost use Rattle.serde_json.specs.View.{view};
-ghost use Rattle.spec_json.specs.Members.{in_object, in_array, needed, typed};
+ghost use Rattle.spec_walk.specs.Members.{in_object, in_array, needed, typed};
 ghost use Rattle.spec_instructions.specs.Encodeset.{width_events, items_events, encodeset_events};
 ghost use Rattle.spec_instructions.specs.EncodesetItems.{items_of_array, encodeset_items};
 ghost use Rattle.mrs_names.specs.Texts.{IsExtended};

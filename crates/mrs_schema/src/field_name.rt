@@ -3,8 +3,8 @@
 ghost use Rattle.std.specs.Prelude.{◌≡◌, ◌++◌, ◌<◌, codes, bytes_eq, false, length, not, Some};
 ghost use Rattle.std.specs.List.{list_any};
 ghost use Rattle.serde_json.specs.View.{view};
-ghost use Rattle.spec_json.specs.Event.{BadName, Doubled};
-ghost use Rattle.spec_json.specs.Members.{in_text, needed, unless};
+ghost use Rattle.spec_walk.specs.Event.{BadName, Doubled};
+ghost use Rattle.spec_walk.specs.Members.{in_text, needed, unless};
 ghost use Rattle.spec_instructions.specs.Encodeset.{text_at, is_field_name, field_name_events};
 ghost use Rattle.mrs_names.specs.Texts.{IsExtended};
 ghost use Rattle.mrs_arena.specs.Placed.{text_of};

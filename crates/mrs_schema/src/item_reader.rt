@@ -2,7 +2,7 @@
 
 ghost use Rattle.std.specs.Prelude.{◌≡◌, ◌++◌, [], ◌∷◌, ◌<◌, length, is_some, Some};
 ghost use Rattle.serde_json.specs.View.{view};
-ghost use Rattle.spec_json.specs.Members.{in_object, typed};
+ghost use Rattle.spec_walk.specs.Members.{in_object, typed};
 ghost use Rattle.spec_instructions.specs.Encodeset.{item_kind, item_kind_named, item_parts, item_events};
 ghost use Rattle.spec_instructions.specs.EncodesetItems.{item_in};
 ghost use Rattle.mrs_names.specs.Texts.{IsExtended};

@@ -1,7 +1,7 @@
 //! Kinds of objects that make up the tree of instructions.
 
 ghost use Rattle.std.specs.Prelude.{◌≡◌, [], ◌∷◌, Some, is_some, option_map, ⊤};
-ghost use Rattle.spec_json.specs.Members.{in_object, typed};
+ghost use Rattle.spec_walk.specs.Members.{in_object, typed};
 ghost use Rattle.spec_instructions.specs.Kind.{Set, Group, Leaf, kinds_in, kind_named, kind_among};
 ghost use Rattle.mrs_schema.specs.Gives.{Reads};
 ghost use Rattle.mrs_schema.specs.Kinds.{group_child, leaf_child};

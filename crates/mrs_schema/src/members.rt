@@ -3,7 +3,7 @@
 ghost use Rattle.std.specs.Prelude.{◌≡◌, Some, option_map, bytes_eq, codes, ⊤};
 ghost use Rattle.serde_json.specs.Find.{get, as_str};
 ghost use Rattle.serde_json.specs.View.{view, items_view};
-ghost use Rattle.spec_json.specs.Members.{in_object, in_array, in_text, needed, optional, typed};
+ghost use Rattle.spec_walk.specs.Members.{in_object, in_array, in_text, needed, optional, typed};
 ghost use Rattle.spec_instructions.specs.Encodeset.{text_at};
 ghost use Rattle.mrs_schema.specs.Children.{children_of};
 ghost use Rattle.mrs_schema.specs.Faults.{why_of};

@@ -2,8 +2,8 @@
 
 ghost use Rattle.std.specs.Prelude.{◌≡◌, ◌<◌, codes, length, Some};
 ghost use Rattle.serde_json.specs.View.{view};
-ghost use Rattle.spec_json.specs.Event.{BadName};
-ghost use Rattle.spec_json.specs.Members.{in_text, needed, unless};
+ghost use Rattle.spec_walk.specs.Event.{BadName};
+ghost use Rattle.spec_walk.specs.Members.{in_text, needed, unless};
 ghost use Rattle.spec_instructions.specs.Encodeset.{text_at};
 ghost use Rattle.spec_instructions.specs.Name.{is_name};
 ghost use Rattle.spec_instructions.specs.Walk.{name_events};

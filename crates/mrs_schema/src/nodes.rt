@@ -2,7 +2,7 @@
 
 ghost use Rattle.std.specs.Prelude.{◌≡◌, ◌+◌, ◌++◌, Some, codes, length, ⊤};
 ghost use Rattle.serde_json.specs.View.{view, items_view};
-ghost use Rattle.spec_json.specs.Members.{in_array, optional};
+ghost use Rattle.spec_walk.specs.Members.{in_array, optional};
 ghost use Rattle.spec_instructions.specs.Kind.{Group, Leaf, kinds_in};
 ghost use Rattle.spec_instructions.specs.Walk.{own_events, node_events, children_events, named_items};
 ghost use Rattle.spec_instructions.specs.Tree.{node_of, child_nodes};

@@ -3,8 +3,8 @@
 ghost use Rattle.std.specs.Prelude.{◌≡◌, ◌++◌, ◌<◌, [], ◌∷◌, Some, codes, length, option_map, ⊤};
 ghost use Rattle.serde_json.specs.Find.{get};
 ghost use Rattle.serde_json.specs.View.{view};
-ghost use Rattle.spec_json.specs.Event.{NotYet};
-ghost use Rattle.spec_json.specs.Members.{wrong, optional};
+ghost use Rattle.spec_walk.specs.Event.{NotYet};
+ghost use Rattle.spec_walk.specs.Members.{wrong, optional};
 ghost use Rattle.spec_instructions.specs.Encodeset.{encodeset_events};
 ghost use Rattle.spec_instructions.specs.EncodesetItems.{encodeset_items};
 ghost use Rattle.spec_instructions.specs.Walk.{own_events};

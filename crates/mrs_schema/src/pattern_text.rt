@@ -3,7 +3,7 @@
 ghost use Rattle.std.specs.Prelude.{◌≡◌, codes};
 ghost use Rattle.serde_json.specs.Find.{as_str};
 ghost use Rattle.spec_bits.specs.PatternText.{pattern_in};
-ghost use Rattle.spec_json.specs.Members.{in_text};
+ghost use Rattle.spec_walk.specs.Members.{in_text};
 ghost use Rattle.spec_instructions.specs.Encodeset.{pattern_events, value_events, text_at};
 ghost use Rattle.spec_instructions.specs.EncodesetItems.{text_digits};
 ghost use Rattle.bit_pattern.specs.Views.{digits_of};

@@ -1,7 +1,7 @@
 //! Places in a document.
 
 ghost use Rattle.std.specs.Prelude.{◌≡◌, ◌++◌, OnOk, string_bytes};
-ghost use Rattle.spec_json.specs.Pointer.{escaped};
+ghost use Rattle.spec_walk.specs.Pointer.{escaped};
 
 use crate::memory::NoMemory;
 use crate::text::Text;

@@ -2,7 +2,7 @@
 
 ghost use Rattle.std.specs.Prelude.{◌≡◌, ◌+◌, ◌≤◌, ◌^◌, codes, IfSome, is_some};
 ghost use Rattle.serde_json.specs.View.{view};
-ghost use Rattle.spec_json.specs.Members.{needed, whole_number};
+ghost use Rattle.spec_walk.specs.Members.{needed, whole_number};
 ghost use Rattle.spec_instructions.specs.Encodeset.{number_at, number_events, is_range, range_events};
 ghost use Rattle.mrs_schema.specs.Gives.{Reads};
 ghost use Rattle.mrs_schema.specs.Members.{members_of};

@@ -3,7 +3,7 @@
 ghost use Rattle.std.specs.Prelude.{◌≡◌, [], Some, codes};
 ghost use Rattle.serde_json.specs.Find.{get};
 ghost use Rattle.serde_json.specs.View.{view};
-ghost use Rattle.spec_json.specs.Members.{in_object, needed};
+ghost use Rattle.spec_walk.specs.Members.{in_object, needed};
 ghost use Rattle.spec_instructions.specs.Tree.{document_set};
 ghost use Rattle.spec_instructions.specs.Walk.{instructions_events};
 ghost use Rattle.mrs_names.specs.Texts.{IsExtended};

@@ -2,7 +2,7 @@
 
 ghost use Rattle.std.specs.Prelude.{◌≡◌, [], ◌&&◌, None, codes, is_some, true, false, if◌then◌else◌, ◌∷◌, ◌++◌};
 ghost use Rattle.serde_json.specs.View.{view};
-ghost use Rattle.spec_json.specs.Members.{in_array, in_object, in_text, needed, typed};
+ghost use Rattle.spec_walk.specs.Members.{in_array, in_object, in_text, needed, typed};
 ghost use Rattle.spec_instructions.specs.Kind.{Set, kind_named};
 ghost use Rattle.spec_instructions.specs.Tree.{node_of, set_in};
 ghost use Rattle.spec_instructions.specs.Walk.{is_chosen, set_name_events, set_parts, set_events, sets_events};

@@ -4,8 +4,8 @@ use Rattle.std.specs.Fmt.{digits}
 use Rattle.serde_json.specs.Read.{read}
 use Rattle.serde_json.proofs.OnLiterals.{serde_json_on_literals}
 use Rattle.spec_bits.specs.PatternText.{Unquoted}
-use Rattle.spec_json.specs.Event.{Why, Fault, Missing, UnlistedKind, WrongShape, BadPattern, BadRange, BadName, Doubled, NoSet, NotYet}
-use Rattle.spec_json.specs.Limits.{◌>>=◌}
+use Rattle.spec_walk.specs.Event.{Why, Fault, Missing, UnlistedKind, WrongShape, BadPattern, BadRange, BadName, Doubled, NoSet, NotYet}
+use Rattle.spec_walk.specs.Limits.{◌>>=◌}
 use Rattle.spec_instructions.specs.Kind.{Set, Leaf}
 use Rattle.spec_instructions.specs.Paths.{document_paths, path_name}
 use Rattle.spec_instructions.specs.Reading.{paths_read}

@@ -4,8 +4,8 @@ use Rattle.std.specs.Fmt.{digits}
 use Rattle.spec_bits.specs.Pattern.{Digit}
 use Rattle.spec_bits.specs.PatternText.{pattern_in}
 use Rattle.spec_bits.specs.Item.{Item}
-use Rattle.spec_json.specs.Event.{TooMany}
-use Rattle.spec_json.specs.Members.{wrong}
+use Rattle.spec_walk.specs.Event.{TooMany}
+use Rattle.spec_walk.specs.Members.{wrong}
 use Rattle.spec_instructions.specs.Kind.{Kind, Set, Group, Leaf}
 use Rattle.spec_instructions.specs.Encodeset.{within_limits}
 use Rattle.spec_instructions.specs.EncodesetItems.{digits_read, is_binary}

@@ -5,9 +5,9 @@ use Rattle.serde_json.specs.Data.{Data, Items, no_items, item, Members}
 use Rattle.serde_json.specs.Find.{get, as_str}
 use Rattle.spec_bits.specs.Pattern.{Digit}
 use Rattle.spec_bits.specs.PatternText.{PatternRefusal, pattern_in}
-use Rattle.spec_json.specs.Pointer.{element}
-use Rattle.spec_json.specs.Event.{Event, Name, WrongShape, BadPattern, BadRange, BadName, Doubled, TooMany}
-use Rattle.spec_json.specs.Members.{wrong, unless, in_object, in_array, in_text, needed, optional, typed, whole_number}
+use Rattle.spec_walk.specs.Pointer.{element}
+use Rattle.spec_walk.specs.Event.{Event, Name, WrongShape, BadPattern, BadRange, BadName, Doubled, TooMany}
+use Rattle.spec_walk.specs.Members.{wrong, unless, in_object, in_array, in_text, needed, optional, typed, whole_number}
 use Rattle.spec_instructions.specs.Name.{is_name}
 
 -- items of an encodeset: bits, a field, which has a name, and bits of which all that are `0` or `1` are should-be

@@ -1,8 +1,8 @@
 -- What an Instructions document gives: the paths to its leaves, or its first fault.
 use Rattle.std.specs.Prelude.{ℕ, List, Result, Ok}
 use Rattle.serde_json.specs.Data.{Data}
-use Rattle.spec_json.specs.Event.{Fault}
-use Rattle.spec_json.specs.Limits.{from_held, ◌>>=◌, judged}
+use Rattle.spec_walk.specs.Event.{Fault}
+use Rattle.spec_walk.specs.Limits.{from_held, ◌>>=◌, judged}
 use Rattle.spec_instructions.specs.Walk.{instructions_events}
 use Rattle.spec_instructions.specs.Tree.{Own}
 use Rattle.spec_instructions.specs.Paths.{document_paths}

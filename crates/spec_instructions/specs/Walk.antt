@@ -4,9 +4,9 @@ use Rattle.serde_json.specs.Find.{get_member}
 use Rattle.std.specs.Ordering.{nat_cmp, match_ordering}
 use Rattle.std.specs.Cmp.Lexicographic.{slice_cmp}
 use Rattle.serde_json.specs.Data.{Data, null, array, object, Items, no_items, item, Members, no_members, member}
-use Rattle.spec_json.specs.Pointer.{under, element}
-use Rattle.spec_json.specs.Event.{ANode, ALeaf, AnAlias, Event, Name, OneMore, BadName, WrongShape, Doubled, NoSet, NotYet}
-use Rattle.spec_json.specs.Members.{wrong, unless, in_object, in_array, in_text, needed, optional, typed}
+use Rattle.spec_walk.specs.Pointer.{under, element}
+use Rattle.spec_walk.specs.Event.{ANode, ALeaf, AnAlias, Event, Name, OneMore, BadName, WrongShape, Doubled, NoSet, NotYet}
+use Rattle.spec_walk.specs.Members.{wrong, unless, in_object, in_array, in_text, needed, optional, typed}
 use Rattle.spec_instructions.specs.Name.{is_name}
 use Rattle.spec_instructions.specs.Kind.{Kind, Set, Group, Leaf, Alias, Instance, kinds_in, kind_named, kind_among}
 use Rattle.spec_instructions.specs.Encodeset.{encodeset_events, text_at}

@@ -4,7 +4,7 @@ use Rattle.std.specs.Fmt.{digits}
 use Rattle.serde_json.specs.Read.{read}
 use Rattle.serde_json.proofs.OnLiterals.{serde_json_on_literals}
 use Rattle.spec_command.specs.Verb.{Verb, ListWords, Leaf}
-use Rattle.spec_json.specs.Event.{Missing, UnlistedKind}
+use Rattle.spec_walk.specs.Event.{Missing, UnlistedKind}
 use Rattle.spec_run.specs.Outcome.{Outcome, outcome, after_opening, of_value, Done, Ragged, Usage, Document, Question, NoLeaf, ReadFault, WriteFault, Limit, Insns, Input, Json, Schema, message}
 
 empty_object : of_value (codes "A64") (read (codes "{}")) ≡ Err (Document Insns (Schema (record { at = []; why = Missing (codes "instructions") })))

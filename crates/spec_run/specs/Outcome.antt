@@ -4,7 +4,7 @@ use Rattle.std.specs.Str.{is_utf8}
 use Rattle.spec_io.specs.Documents.{Document as Named, document_of}
 use Rattle.serde_json.specs.Data.{Data}
 use Rattle.serde_json.specs.Read.{read}
-use Rattle.spec_json.specs.Event.{Fault, Why, Missing, UnlistedKind, WrongShape, BadPattern, BadRange, BadName, Doubled, TooMany, NoSet, NotYet}
+use Rattle.spec_walk.specs.Event.{Fault, Why, Missing, UnlistedKind, WrongShape, BadPattern, BadRange, BadName, Doubled, TooMany, NoSet, NotYet}
 use Rattle.spec_instructions.specs.Tree.{Own}
 use Rattle.spec_instructions.specs.Paths.{labelled_leaf}
 use Rattle.spec_instructions.specs.Reading.{paths_read}

@@ -1,6 +1,6 @@
 use Rattle.std.proofs.Common.{codes, ◌∙◌, ap, sym}
 use Rattle.serde_json.specs.View.{view}
-use Rattle.spec_json.specs.Pointer.{under}
+use Rattle.spec_walk.specs.Pointer.{under}
 use Rattle.spec_instructions.specs.Kind.{Leaf, kinds_in}
 use Rattle.spec_instructions.specs.Tree.{nodes_in}
 use Rattle.mrs_schema.specs.Pointers.{pointer}

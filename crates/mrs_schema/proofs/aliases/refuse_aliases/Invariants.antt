@@ -1,5 +1,5 @@
 use Rattle.std.proofs.Common.{codes}
-use Rattle.spec_json.specs.Pointer.{under}
+use Rattle.spec_walk.specs.Pointer.{under}
 use Rattle.mrs_schema.specs.Pointers.{pointer}
 use Rattle.mrs_schema.proofs.AliasLaws.{AliasesRead}
 use Rattle.mrs_schema.proofs.aliases.refuse_aliases.Given as goal

@@ -1,6 +1,6 @@
 use Rattle.std.proofs.Common.{◌++◌, codes}
 use Rattle.serde_json.specs.View.{view}
-use Rattle.spec_json.specs.Members.{in_text, needed}
+use Rattle.spec_walk.specs.Members.{in_text, needed}
 use Rattle.spec_instructions.specs.Encodeset.{field_name_events, range_and_value, mask_events}
 use Rattle.mrs_schema.specs.Drafted.{counts, last_items}
 use Rattle.mrs_schema.specs.Items.{names_of}

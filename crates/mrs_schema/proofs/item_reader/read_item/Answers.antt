@@ -1,6 +1,6 @@
 use Rattle.std.proofs.Common.{length, Some}
 use Rattle.serde_json.specs.View.{view}
-use Rattle.spec_json.specs.Limits.{judged}
+use Rattle.spec_walk.specs.Limits.{judged}
 use Rattle.spec_instructions.specs.Encodeset.{item_parts}
 use Rattle.mrs_schema.specs.Drafted.{counts, last_items, last_named}
 use Rattle.mrs_schema.specs.Items.{names_of}

@@ -1,6 +1,6 @@
 use Rattle.std.proofs.Common.{◌++◌, ◌∙◌, sym, ap, append-nil, length, Some, arith}
 use Rattle.serde_json.specs.View.{view}
-use Rattle.spec_json.specs.Limits.{judged}
+use Rattle.spec_walk.specs.Limits.{judged}
 use Rattle.spec_instructions.specs.Kind.{Group, Leaf, Instance, kinds_in}
 use Rattle.spec_instructions.specs.Walk.{own_events}
 use Rattle.spec_instructions.specs.Tree.{nodes_in}

@@ -1,7 +1,7 @@
 use Rattle.std.proofs.Common.{◌+◌, ◌*◌, codes}
 use Rattle.serde_json.specs.Data.{depth}
 use Rattle.serde_json.specs.View.{view}
-use Rattle.spec_json.specs.Pointer.{under}
+use Rattle.spec_walk.specs.Pointer.{under}
 use Rattle.mrs_schema.specs.Pointers.{pointer}
 use Rattle.mrs_schema.proofs.NodeLoop.{ChildrenRead}
 use Rattle.mrs_schema.proofs.nodes.+nodes.Given as goal

@@ -1,6 +1,6 @@
 use Rattle.std.proofs.Common.{◌+◌, Some}
 use Rattle.serde_json.specs.View.{view}
-use Rattle.spec_json.specs.Limits.{judged}
+use Rattle.spec_walk.specs.Limits.{judged}
 use Rattle.spec_instructions.specs.Kind.{Leaf}
 use Rattle.spec_instructions.specs.Walk.{own_events, named_items}
 use Rattle.mrs_schema.specs.Drafted.{counts, named_at}

@@ -1,6 +1,6 @@
 use Rattle.std.proofs.Common.{◌∙◌, sym, ap, length, option_map, Ok}
 use Rattle.serde_json.specs.View.{view}
-use Rattle.spec_json.specs.Limits.{judged}
+use Rattle.spec_walk.specs.Limits.{judged}
 use Rattle.spec_instructions.specs.Walk.{counted}
 use Rattle.mrs_arena.specs.Placed.{kind_of}
 use Rattle.mrs_schema.specs.Above.{named_above}

@@ -1,6 +1,6 @@
 use Rattle.std.proofs.Common.{◌≢◌, ◌++◌, ◌∙◌, sym, ap, string_bytes, arith}
 use Rattle.std.specs.Str.Iter.{chars_rest}
-use Rattle.spec_json.specs.Pointer.{escaped}
+use Rattle.spec_walk.specs.Pointer.{escaped}
 use Rattle.mrs_schema.proofs.PointerLaws.{escaped_more}
 use Rattle.mrs_schema.proofs.place.push_escaped.Goals as goal
 

@@ -1,6 +1,6 @@
 use Rattle.std.proofs.Common.{◌≡◌, ◌++◌, string_bytes}
 use Rattle.std.specs.Str.Iter.{chars_rest}
-use Rattle.spec_json.specs.Pointer.{escaped}
+use Rattle.spec_walk.specs.Pointer.{escaped}
 use Rattle.mrs_schema.proofs.place.push_escaped.Given as goal
 
 abbrev pub invariant-loop-c : goal.invariant-loop-c

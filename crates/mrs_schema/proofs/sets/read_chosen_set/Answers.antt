@@ -1,6 +1,6 @@
 use Rattle.std.proofs.Common.{◌++◌, ◌∙◌, ap, length, None}
 use Rattle.serde_json.specs.View.{view}
-use Rattle.spec_json.specs.Limits.{judged}
+use Rattle.spec_walk.specs.Limits.{judged}
 use Rattle.spec_instructions.specs.Kind.{Set}
 use Rattle.spec_instructions.specs.Walk.{own_events}
 use Rattle.spec_instructions.specs.Tree.{node_of}

@@ -1,6 +1,6 @@
 use Rattle.std.proofs.Common.{◌∙◌, ◌&&◌, sym, ap, refl, true, false}
 use Rattle.serde_json.specs.View.{view}
-use Rattle.spec_json.specs.Limits.{judged}
+use Rattle.spec_walk.specs.Limits.{judged}
 use Rattle.spec_instructions.specs.Walk.{set_parts}
 use Rattle.mrs_schema.specs.Drafted.{counts}
 use Rattle.mrs_schema.specs.Members.{members_of}

@@ -1,8 +1,8 @@
 use Rattle.std.proofs.Common.{◌≡◌, ◌∙◌, sym, ap, subst, ◌+◌, ◌<◌, false, List, [], ◌∷◌, length, map, option_to_list, IfSome, bytes_eq, Ok, Err, arith}
 use Rattle.std.proofs.lemmas.List.{length-map}
 use Rattle.std.specs.List.{list_any}
-use Rattle.spec_json.specs.Event.{TooMany}
-use Rattle.spec_json.specs.Limits.{judged}
+use Rattle.spec_walk.specs.Event.{TooMany}
+use Rattle.spec_walk.specs.Limits.{judged}
 use Rattle.spec_instructions.specs.Encodeset.{within_limits}
 use Rattle.mrs_arena.specs.Flat.{FlatNode}
 use Rattle.mrs_arena.specs.Formed.{AreNodes}

@@ -1,6 +1,6 @@
 use Rattle.std.proofs.Common.{◌∙◌, sym, ap, map, [], ◌∷◌, Ok, Err}
-use Rattle.spec_json.specs.Event.{Name, TooMany}
-use Rattle.spec_json.specs.Limits.{judged}
+use Rattle.spec_walk.specs.Event.{Name, TooMany}
+use Rattle.spec_walk.specs.Limits.{judged}
 use Rattle.mrs_names.proofs.PlaceLaws.{place_of-lt}
 use Rattle.mrs_arena.specs.Placed.{placed}
 use Rattle.mrs_arena.proofs.HeldLaws.{placed-extended}

@@ -1,7 +1,7 @@
 use Rattle.std.proofs.Common.{◌∙◌, sym, ap, subst, ℕ, ◌<◌, List, [], ◌∷◌, ◌++◌, length, map, option_map, Option, Ok, Err}
 use Rattle.std.proofs.lemmas.List.{map_push, length-map}
-use Rattle.spec_json.specs.Event.{TooMany}
-use Rattle.spec_json.specs.Limits.{judged}
+use Rattle.spec_walk.specs.Event.{TooMany}
+use Rattle.spec_walk.specs.Limits.{judged}
 use Rattle.spec_instructions.specs.Walk.{counted}
 use Rattle.mrs_arena.specs.Flat.{FlatNode}
 use Rattle.mrs_arena.specs.Nodes.{new_node}

@@ -1,7 +1,7 @@
 -- The first fault of a walk, with the limits on names and on counted things.
 use Rattle.std.specs.Prelude.{ℕ, ◌+◌, List, [], ◌∷◌, ◌++◌, length, nat_le, bytes_eq, Result, Ok, Err, if◌then◌else◌}
 use Rattle.std.specs.List.{list_any}
-use Rattle.spec_json.specs.Event.{ANode, ALeaf, AnAlias, TooMany, Fault, Event, Name, OneMore, Wrong}
+use Rattle.spec_walk.specs.Event.{ANode, ALeaf, AnAlias, TooMany, Fault, Event, Name, OneMore, Wrong}
 
 -- the texts that have a number, in order of their numbers, and how many nodes, leaves and aliases were met
 pub record Counts : Type 0 where

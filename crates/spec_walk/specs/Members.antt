@@ -2,8 +2,8 @@
 use Rattle.std.specs.Prelude.{ℕ, List, [], ◌∷◌, Bool, Option, Some, None, if◌then◌else◌, codes, nat_lt, option_and_then}
 use Rattle.serde_json.specs.Data.{Data, null, string, array, object, Items, Members}
 use Rattle.serde_json.specs.Find.{get_member, as_number, as_u64}
-use Rattle.spec_json.specs.Pointer.{under}
-use Rattle.spec_json.specs.Event.{Why, Missing, UnlistedKind, WrongShape, Event, Wrong}
+use Rattle.spec_walk.specs.Pointer.{under}
+use Rattle.spec_walk.specs.Event.{Why, Missing, UnlistedKind, WrongShape, Event, Wrong}
 
 -- one fault
 abbrev pub wrong : List ℕ → Why → List Event

@@ -2,9 +2,9 @@
 use Rattle.std.specs.Prelude.{◌≡◌, ℕ, List, [], ◌∷◌, ◌++◌, length, true, false, bytes_eq, Result, Ok, Err, codes, refl}
 use Rattle.std.specs.Fmt.{digits}
 use Rattle.std.specs.List.{list_any}
-use Rattle.spec_json.specs.Pointer.{under, element}
-use Rattle.spec_json.specs.Event.{ANode, ALeaf, AnAlias, Why, WrongShape, TooMany, Fault, Name, OneMore, Wrong}
-use Rattle.spec_json.specs.Limits.{Counts, from_held, judged}
+use Rattle.spec_walk.specs.Pointer.{under, element}
+use Rattle.spec_walk.specs.Event.{ANode, ALeaf, AnAlias, Why, WrongShape, TooMany, Fault, Name, OneMore, Wrong}
+use Rattle.spec_walk.specs.Limits.{Counts, from_held, judged}
 
 -- ---- places
 
