@@ -1,10 +1,9 @@
 -- The paths from the set to each leaf, and the labels of leaves.
-use Rattle.std.specs.Prelude.{ℕ, List, [], ◌∷◌, ◌++◌, Option, Some, None, if◌then◌else◌, nat_lt, bytes_eq, count_by, decimal, flat_map, slice_index_or, Bool, find, length}
+use Rattle.std.specs.Prelude.{ℕ, List, [], ◌∷◌, ◌++◌, Option, if◌then◌else◌, nat_lt, bytes_eq, count_by, decimal, flat_map, slice_index_or, Bool, find, length}
 use Rattle.std.specs.List.{range_with_len}
-use Rattle.serde_json.specs.Data.{Data}
 use Rattle.spec_bits.specs.Item.{Item}
 use Rattle.spec_instructions.specs.Kind.{Kind, Set, Group, Leaf, Alias, Instance}
-use Rattle.spec_instructions.specs.Tree.{Own, Node, node, Nodes, no_nodes, more, document_set}
+use Rattle.spec_instructions.specs.Tree.{Own, Node, node, Nodes, no_nodes, more}
 
 -- a path ends at a leaf; what hangs below a set or a group is followed on
 abbrev pub paths_at : Kind → List Own → List (List Own) → List (List Own)
@@ -22,14 +21,6 @@ abbrev mutual
   pub paths_among : List Own → Nodes → List (List Own)
   paths_among above no_nodes = []
   paths_among above (more n ns) = paths_from above n ++ paths_among above ns
-
-abbrev pub paths_of_set : Option Node → List (List Own)
-paths_of_set None = []
-paths_of_set (Some set) = paths_from [] set
-
--- the paths of a document; leaf number k is the k-th, from 0
-abbrev pub document_paths : List ℕ → Data → List (List Own)
-document_paths isa d = paths_of_set (document_set isa d)
 
 -- the name of a path's last node
 abbrev pub path_name : List Own → List ℕ
