@@ -1,2 +1,3 @@
 pub mod Worked
 pub mod WorkedPaths
+pub mod ShapeLaws

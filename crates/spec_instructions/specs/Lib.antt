@@ -5,4 +5,5 @@ pub mod Tree
 pub mod Walk
 pub mod Paths
 pub mod Fields
+pub mod Shape
 pub mod Reading
