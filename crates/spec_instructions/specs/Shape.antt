@@ -1,5 +1,5 @@
--- What holds of the tree of every document that is accepted: where each kind stands, and what names are.
-use Rattle.std.specs.Prelude.{◌≡◌, ◌≢◌, ◌⊎◌, List, [], ◌∷◌, true, IfSome, ⊤}
+-- What holds of the tree of every document that is accepted: where each kind stands, and what its names and items are.
+use Rattle.std.specs.Prelude.{◌≡◌, ◌≢◌, ◌⊎◌, ◌≤◌, ◌+◌, List, [], ◌∷◌, length, true, IfSome, ⊤}
 use Rattle.std.specs.List.{AllByRecursion}
 use Rattle.spec_bits.specs.Item.{Item}
 use Rattle.spec_instructions.specs.Name.{is_name}
@@ -31,28 +31,31 @@ abbrev mutual
   AreShaped kinds no_nodes = ⊤
   AreShaped kinds (more n ns) = MayStand kinds (node_kind n) × (IsShaped n × AreShaped kinds ns)
 
--- ---- names
+-- ---- names and items
 
--- a field's name is a name, and none of the words `rest` and `sys`
-abbrev pub HasFieldName : Item → Type 0
-HasFieldName it = IfSome it.name (λ s. is_field_name s ≡ true)
+-- an item has digits, within the word, and a mark for each; a field's name is a name, and none of the words `rest` and `sys`
+pub record IsSoundItem (it : Item) : Type 0 where
+  pub name : IfSome it.name (λ s. is_field_name s ≡ true)
+  pub some : 1 ≤ length it.digits
+  pub fits : it.start + length it.digits ≤ 32
+  pub marks : length it.marks ≡ length it.digits
 
-pub record HasNames (own : Own) : Type 0 where
+pub record IsSoundOwn (own : Own) : Type 0 where
   pub name : is_name own.name ≡ true
-  pub fields : AllByRecursion HasFieldName own.items
+  pub items : AllByRecursion IsSoundItem own.items
 
 abbrev mutual
-  -- the names of each node and of its fields are names
-  pub IsNamed : Node → Type 0
-  IsNamed (node own kids) = HasNames own × AreNamed kids
+  -- so it is at each node
+  pub IsSound : Node → Type 0
+  IsSound (node own kids) = IsSoundOwn own × AreSound kids
 
-  pub AreNamed : Nodes → Type 0
-  AreNamed no_nodes = ⊤
-  AreNamed (more n ns) = IsNamed n × AreNamed ns
+  pub AreSound : Nodes → Type 0
+  AreSound no_nodes = ⊤
+  AreSound (more n ns) = IsSound n × AreSound ns
 
 -- ---- the whole tree: its root is a set, and since no kind may have a set below it, no other node is
 
 pub record IsSetTree (set : Node) : Type 0 where
   pub root : node_kind set ≡ Set
   pub shaped : IsShaped set
-  pub named : IsNamed set
+  pub sound : IsSound set
