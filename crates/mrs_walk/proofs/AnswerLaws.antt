@@ -4,7 +4,7 @@ use Rattle.std.specs.Bool.{⊤}
 use Rattle.std.specs.Result.{IsErrAnd}
 use Rattle.spec_walk.specs.Event.{Why, Fault}
 use Rattle.spec_walk.specs.Limits.{Counts}
-use Rattle.spec_walk.specs.Walk.{Walk, Done, Stop, ◌>>>◌, gives}
+use Rattle.spec_walk.specs.Walk.{Walk, Done, ◌>>>◌, gives}
 use Rattle.spec_walk.specs.Spot.{Spot, wrong, member_at, if_there, optional}
 use Rattle.spec_walk.proofs.WalkLaws.{gives-next, gives-stops}
 use Rattle.mrs_walk.specs.Gives.{Gives, Fails, Ends, Puts}
