@@ -11,7 +11,7 @@ use Rattle.spec_instructions.specs.Kind as kind
 use Rattle.spec_instructions.specs.Kind.{Kind, kinds_in}
 use Rattle.spec_instructions.specs.Tree.{Own, Node, node, Nodes, no_nodes, more}
 use Rattle.spec_instructions.specs.Paths.{paths_at, paths_from, paths_among}
-use Rattle.spec_instructions.proofs.Shapes.{IsAmong, IsShaped, AreShaped}
+use Rattle.spec_instructions.specs.Shape.{IsAmong, IsShaped, AreShaped}
 use Rattle.mrs_arena.specs.declared.kind.Kind as arena
 use Rattle.mrs_arena.specs.declared.kind.Kind.TheVariants as variant
 use Rattle.mrs_arena.specs.Flat.{FlatNode}

@@ -1,14 +1,14 @@
 -- What the nodes of a draft stand for, as items are put.
-use Rattle.std.proofs.Common.{◌≡◌, ◌∙◌, sym, ap, refl, ℕ, zero, suc, ◌+◌, ◌-◌, ◌<◌, ◌≤◌, Bool, true, false, ◌&&◌, ◌||◌, nat_le, nat_lt, List, [], ◌∷◌, ◌++◌, length, map, Option, Some, None, is_some, option_map, option_to_list, IfSome, All, bytes_eq, arith, Result, Ok, Err}
+use Rattle.std.proofs.Common.{◌≡◌, ◌∙◌, sym, ap, refl, ℕ, zero, suc, ◌+◌, ◌-◌, ◌<◌, ◌≤◌, Bool, true, false, ◌&&◌, ◌||◌, nat_le, nat_lt, List, [], ◌∷◌, ◌++◌, length, map, Option, Some, None, is_some, option_map, option_to_list, IfSome, All, bytes_eq, arith, Ok, Err}
 use Rattle.std.specs.Prelude.{flat_map}
 use Rattle.std.specs.List.{list_any}
 use Rattle.std.proofs.lemmas.Bool.{leb-false, leb-true, le-leb, lt-leb, lt-ltb, le-ltb, or_parts, and_left, and_right}
 use Rattle.std.proofs.lemmas.List.{map_push, map-append, length-map}
 use Rattle.std.proofs.lemmas.List.Elements.{All-nil, All-head, All-tail}
-use Rattle.spec_walk.specs.Event.{TooMany, Fault}
-use Rattle.spec_walk.specs.Limits.{Counts, judged}
-use Rattle.spec_walk.specs.Members.{unless}
-use Rattle.spec_instructions.specs.Encodeset.{within_limits}
+use Rattle.spec_walk.specs.Event.{TooMany}
+use Rattle.spec_walk.specs.Walk.{gives}
+use Rattle.spec_walk.specs.Spot.{Spot, unless}
+use Rattle.spec_instructions.specs.Encodeset.{within_limits, named_in}
 use Rattle.mrs_names.specs.Texts.{place_of, AreNames}
 use Rattle.mrs_names.specs.declared.name_id.NameId.{NameId}
 use Rattle.mrs_arena.specs.Flat.{FlatItem, FlatNode}
@@ -20,19 +20,11 @@ use Rattle.mrs_arena.specs.Formed.{AreNodes}
 use Rattle.mrs_arena.specs.Placed.{text_of, item_of, kind_of, Placed, placed, IsHeldItem, IsHeldNode, AreHeld}
 use Rattle.mrs_arena.proofs.HeldLaws.{parents-placed, count_by-map, is_some-map}
 use Rattle.mrs_arena.proofs.PutLaws.{length-with_item}
-use Rattle.mrs_schema.specs.Drafted.{counts, items_at, last_items, named_at, last_named, named_in, with_items, Passes}
+use Rattle.mrs_schema.specs.Drafted.{counts, items_at, last_items, named_at, last_named, with_items}
 use Rattle.mrs_schema.proofs.PlacedLaws.{last_named-with_items}
 use Rattle.mrs_schema.proofs.CountLaws.{counts-with_item}
-use Rattle.mrs_schema.specs.Items.{names_of}
+use Rattle.spec_instructions.specs.Encodeset.{names_of}
 use Rattle.mrs_schema.proofs.TakenLaws.{place_of-held, has_number, has_number-is, has_no_number}
-use Rattle.mrs_schema.specs.Gives.{Fails}
-use Rattle.mrs_schema.specs.declared.fault.ReadFault.{ReadFault}
-use Rattle.mrs_schema.specs.declared.fault.ReadFault.TheVariants.{Schema, NoMemory}
-
--- a fault that is made stands for the one in which the events end
-pub Passes-fault : {T : Type 0} (fault : ReadFault) (first : Fault) (ended : Result Counts Fault) (after : Counts) (P : T → Type 0) → Fails fault (Some first) → ended ≡ Err first → Passes (Err fault) ended after P
-Passes-fault (Schema f) first ended after P made ends = ends ∙ ap Err (let same = made in cc)
-Passes-fault NoMemory first ended after P made ends = tt
 
 -- ---- items
 
@@ -73,10 +65,6 @@ placed-with_item names it (node ∷ next ∷ rest) = ap (λ nodes. placed names 
 
 -- ---- limits
 
--- what the limits are held against
-abbrev item_fits : ℕ → ℕ → Bool
-item_fits place named = nat_lt place 64 && nat_le named 256
-
 named_one : (names : List (List ℕ)) (it : FlatItem) (name : Option ℕ) → it.name ≡ name → named_in (item_of names it ∷ []) ≡ length (option_to_list name)
 named_one names it name e = ap (λ o. named_in (record { name = option_map (text_of names) o; start = it.start; digits = it.digits; marks = it.marks } ∷ [])) e ∙ go name
   where
@@ -99,23 +87,23 @@ few_named names nodes it some are =
     let put = ap last_named (placed-with_item names it nodes) ∙ last_named-with_items (item_of names it ∷ []) (map (placed names) nodes) (omega (arith, length-map nodes (placed names))) in
     omega (arith, few, new, put, named_one names it it.name refl)
 
-pub item_taken : (at : List ℕ) (names : List (List ℕ)) (nodes : List FlatNode) (it : FlatItem) (named : ℕ) → named ≡ length (option_to_list it.name) → 0 < length nodes → is_item_refused nodes it ≡ false → AreNodes (with_item it nodes)
-    → judged (within_limits (length (last_items (map (placed names) nodes))) (last_named (map (placed names) nodes) + named) at) (counts (record { names = names; nodes = map (placed names) nodes }))
-    ≡ Ok (counts (record { names = names; nodes = map (placed names) (with_item it nodes) }))
-item_taken at names nodes it named is some room are =
+pub item_taken : (here : Spot) (names : List (List ℕ)) (nodes : List FlatNode) (it : FlatItem) (named : ℕ) → named ≡ length (option_to_list it.name) → 0 < length nodes → is_item_refused nodes it ≡ false → AreNodes (with_item it nodes)
+    → gives (unless (within_limits (length (last_items (map (placed names) nodes))) (last_named (map (placed names) nodes) + named)) here TooMany) (counts (record { names = names; nodes = map (placed names) nodes }))
+    ≡ Ok (tt, counts (record { names = names; nodes = map (placed names) (with_item it nodes) }))
+item_taken here names nodes it named is some room are =
     let before = map (placed names) nodes in
     let parts = or_parts (nat_le 64 (length (flat.last_items nodes))) (is_some it.name && nat_le 256 (named_on nodes (length nodes - 1))) room in
     let low : length (last_items before) < 64 = omega (arith, length-last_items names nodes, leb-false 64 (length (flat.last_items nodes)) parts.0) in
     let few : last_named before + named ≤ 256 = omega (arith, few_named names nodes it some are) in
-    let ended = λ (fits : Bool). judged (unless fits at TooMany) (counts (record { names = names; nodes = before })) in
+    let ended = λ (fits : Bool). gives (unless fits here TooMany) (counts (record { names = names; nodes = before })) in
     ap (λ b. ended (b && nat_le (last_named before + named) 256)) (lt-ltb (length (last_items before)) 64 low)
-    ∙ ap ended (le-leb (last_named before + named) 256 few) ∙ ap Ok (counts-with_item names it nodes)
+    ∙ ap ended (le-leb (last_named before + named) 256 few) ∙ ap (λ c. Ok (tt, c)) (counts-with_item names it nodes)
 
-pub item_refused : (at : List ℕ) (names : List (List ℕ)) (nodes : List FlatNode) (it : FlatItem) (named : ℕ) → named ≡ length (option_to_list it.name) → is_item_refused nodes it ≡ true
-    → judged (within_limits (length (last_items (map (placed names) nodes))) (last_named (map (placed names) nodes) + named) at) (counts (record { names = names; nodes = map (placed names) nodes }))
-    ≡ Err (record { at = at; why = TooMany })
-item_refused at names nodes it named is refused =
-    ap (λ fits. judged (unless fits at TooMany) (counts (record { names = names; nodes = before })))
+pub item_refused : (here : Spot) (names : List (List ℕ)) (nodes : List FlatNode) (it : FlatItem) (named : ℕ) → named ≡ length (option_to_list it.name) → is_item_refused nodes it ≡ true
+    → gives (unless (within_limits (length (last_items (map (placed names) nodes))) (last_named (map (placed names) nodes) + named)) here TooMany) (counts (record { names = names; nodes = map (placed names) nodes }))
+    ≡ Err (record { at = here.at; why = TooMany })
+item_refused here names nodes it named is refused =
+    ap (λ fits. gives (unless fits here TooMany) (counts (record { names = names; nodes = before })))
     (go (nat_le 64 (length (flat.last_items nodes))) refl it.name is refused)
   where
     before : List Placed
@@ -123,7 +111,7 @@ item_refused at names nodes it named is refused =
 
     go : (full : Bool) → nat_le 64 (length (flat.last_items nodes)) ≡ full → (name : Option ℕ) → named ≡ length (option_to_list name)
         → (full || (is_some name && nat_le 256 (named_on nodes (length nodes - 1)))) ≡ true
-        → item_fits (length (last_items before)) (last_named before + named) ≡ false
+        → within_limits (length (last_items before)) (last_named before + named) ≡ false
     go true e name is h =
         let high : 64 ≤ length (last_items before) = omega (arith, length-last_items names nodes, leb-true 64 (length (flat.last_items nodes)) e) in
         and_left (nat_lt (length (last_items before)) 64) (nat_le (last_named before + named) 256) (le-ltb (length (last_items before)) 64 high)

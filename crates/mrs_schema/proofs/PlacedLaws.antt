@@ -9,7 +9,8 @@ use Rattle.mrs_arena.proofs.PathLaws.{ancestors-append, ancestors-push, ancestor
 use Rattle.mrs_arena.proofs.PreorderLaws.{IsPlace-lt, IsPlace-last, IsPlace-up}
 use Rattle.mrs_arena.proofs.NodeLaws.{count_by-append}
 use Rattle.mrs_arena.proofs.AlongLaws.{parts_at-push, parts_along-append, parts_along-push, parts_up}
-use Rattle.mrs_schema.specs.Drafted.{parents, named_in, named_at, last_items, last_named, with_items}
+use Rattle.spec_instructions.specs.Encodeset.{named_in}
+use Rattle.mrs_schema.specs.Drafted.{parents, named_at, last_items, last_named, with_items}
 
 abbrev parent_of : Placed → Option ℕ
 parent_of p = p.parent
