@@ -37,7 +37,7 @@ alias_kind Group = refl
 alias_kind Leaf = refl
 alias_kind Alias = refl
 
-pub counts-placed : (names : List (List ℕ)) (nodes : List FlatNode) → counts (record { names = names; nodes = map (placed names) nodes }) ≡ put_counts names (length nodes) (leaf_count nodes) (alias_count nodes)
+counts-placed : (names : List (List ℕ)) (nodes : List FlatNode) → counts (record { names = names; nodes = map (placed names) nodes }) ≡ put_counts names (length nodes) (leaf_count nodes) (alias_count nodes)
 counts-placed names nodes =
     ap (λ n. put_counts names n (count_by (λ p. is_leaf_kind p.own.kind) (map (placed names) nodes)) (count_by (λ p. is_alias_kind p.own.kind) (map (placed names) nodes))) (length-map nodes (placed names))
     ∙ ap (λ n. put_counts names (length nodes) n (count_by (λ p. is_alias_kind p.own.kind) (map (placed names) nodes)))

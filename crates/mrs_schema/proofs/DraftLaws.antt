@@ -17,7 +17,7 @@ use Rattle.mrs_arena.specs.Nodes as flat
 use Rattle.mrs_arena.specs.Nodes.{parents_of, named_on, path_items, with_item}
 use Rattle.mrs_arena.specs.Limits.{is_item_refused}
 use Rattle.mrs_arena.specs.Formed.{AreNodes}
-use Rattle.mrs_arena.specs.Placed.{text_of, item_of, kind_of, Placed, placed, IsHeldItem, IsHeldNode, AreHeld}
+use Rattle.mrs_arena.specs.Placed.{text_of, item_of, own_of, Placed, placed, IsHeldItem, IsHeldNode, AreHeld}
 use Rattle.mrs_arena.proofs.HeldLaws.{parents-placed, count_by-map, is_some-map}
 use Rattle.mrs_arena.proofs.PutLaws.{length-with_item}
 use Rattle.mrs_schema.specs.Drafted.{counts, items_at, last_items, named_at, last_named, with_items}
@@ -33,7 +33,7 @@ items-placed names [] n = refl
 items-placed names (node ∷ nodes) zero = refl
 items-placed names (node ∷ nodes) (suc n) = items-placed names nodes n
 
-pub last_items-placed : (names : List (List ℕ)) (nodes : List FlatNode) → last_items (map (placed names) nodes) ≡ map (item_of names) (flat.last_items nodes)
+last_items-placed : (names : List (List ℕ)) (nodes : List FlatNode) → last_items (map (placed names) nodes) ≡ map (item_of names) (flat.last_items nodes)
 last_items-placed names nodes = ap (λ n. items_at (map (placed names) nodes) (n - 1)) (length-map nodes (placed names)) ∙ items-placed names nodes (length nodes - 1)
 
 items-held : (names : List (List ℕ)) (nodes : List FlatNode) (n : ℕ) → AreHeld names nodes → All (IsHeldItem names) (flat.items_at nodes n)
@@ -41,7 +41,7 @@ items-held names [] n held = All-nil (IsHeldItem names)
 items-held names (node ∷ nodes) zero held = let first = All-head (IsHeldNode names) node nodes held in first.items
 items-held names (node ∷ nodes) (suc n) held = items-held names nodes n (All-tail (IsHeldNode names) node nodes held)
 
-pub last_items-held : (names : List (List ℕ)) (nodes : List FlatNode) → AreHeld names nodes → All (IsHeldItem names) (flat.last_items nodes)
+last_items-held : (names : List (List ℕ)) (nodes : List FlatNode) → AreHeld names nodes → All (IsHeldItem names) (flat.last_items nodes)
 last_items-held names nodes held = items-held names nodes (length nodes - 1) held
 
 path-placed : (names : List (List ℕ)) (nodes : List FlatNode) (ks : List ℕ) → flat_map (items_at (map (placed names) nodes)) ks ≡ map (item_of names) (flat_map (flat.items_at nodes) ks)
@@ -52,7 +52,7 @@ path-placed names nodes (k ∷ ks) =
     ∙ sym (map-append (item_of names) (flat.items_at nodes k) (flat_map (flat.items_at nodes) ks))
 
 -- as many items of a path are named
-pub named_at-placed : (names : List (List ℕ)) (nodes : List FlatNode) (n : ℕ) → named_at (map (placed names) nodes) n ≡ named_on nodes n
+named_at-placed : (names : List (List ℕ)) (nodes : List FlatNode) (n : ℕ) → named_at (map (placed names) nodes) n ≡ named_on nodes n
 named_at-placed names nodes n =
     ap (λ ps. named_in (flat_map (items_at (map (placed names) nodes)) (ancestors ps n))) (parents-placed names nodes)
     ∙ ap named_in (path-placed names nodes (ancestors (parents_of nodes) n))
@@ -60,7 +60,7 @@ named_at-placed names nodes n =
 
 pub placed-with_item : (names : List (List ℕ)) (it : FlatItem) (nodes : List FlatNode) → map (placed names) (with_item it nodes) ≡ with_items (item_of names it ∷ []) (map (placed names) nodes)
 placed-with_item names it [] = refl
-placed-with_item names it (node ∷ []) = ap (λ items. record { parent = node.parent; own = record { kind = kind_of node.kind; name = text_of names node.name; items = items } } ∷ []) (map_push (item_of names) node.items it)
+placed-with_item names it (node ∷ []) = ap (λ items. record (placed names node) { own = record (own_of names node) { items = items } } ∷ []) (map_push (item_of names) node.items it)
 placed-with_item names it (node ∷ next ∷ rest) = ap (λ nodes. placed names node ∷ nodes) (placed-with_item names it (next ∷ rest))
 
 -- ---- limits

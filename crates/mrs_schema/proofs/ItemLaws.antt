@@ -16,7 +16,7 @@ use Rattle.mrs_arena.specs.Placed.{Placed, item_of, text_of}
 use Rattle.mrs_arena.specs.Views.{flat_item}
 use Rattle.mrs_walk.specs.Gives.{Fails, Ends, Puts}
 use Rattle.mrs_walk.specs.declared.fault.ReadFault.{ReadFault}
-use Rattle.mrs_walk.proofs.AnswerLaws.{Fails-then, Fails-same, Puts-then, Puts-same, Puts-last}
+use Rattle.mrs_walk.proofs.AnswerLaws.{Fails-same, Puts-then, Puts-same, Puts-last}
 use Rattle.mrs_schema.specs.Drafted.{Drafted, counts, last_items, last_named, with_items}
 use Rattle.mrs_schema.specs.Parts.{IsRead}
 use Rattle.mrs_walk.proofs.EachLaws.{EachRead, EachRead-none, EachRead-next, EachRead-fails, EachRead-all}
@@ -31,10 +31,6 @@ finish named earlier here it = unless (within_limits (length earlier) (named + l
 
 item-kind : (named : ℕ) (earlier : List Item) (here : Spot) (k : ItemKind) → kind item_kind_named here ≡ Done k → item named earlier here ≡ item_parts earlier here k >>> finish named earlier here
 item-kind named earlier here k h = ap (λ (w : Walk ItemKind). w >>> item_parts earlier here >>> finish named earlier here) h
-
-pub item_fails : (e : ReadFault) (named : ℕ) (old : Drafted) (here : Spot) (k : ItemKind) → kind item_kind_named here ≡ Done k → Fails e (gives (item_parts (last_items old.nodes) here k) (counts old)) → Fails e (gives (item named (last_items old.nodes) here) (counts old))
-item_fails e named old here k h fails =
-    Fails-same e _ _ (ap (λ w. gives w (counts old)) (item-kind named (last_items old.nodes) here k h)) (Fails-then e (item_parts (last_items old.nodes) here k) (finish named (last_items old.nodes) here) (counts old) fails)
 
 named_alike : (names : List (List ℕ)) (o : Option NameId) (it : Item) → it.name ≡ option_map (text_of names) (option_map (λ id. id.0) o) → length (option_to_list o) ≡ length (option_to_list it.name)
 named_alike names None it is = ap (λ n. length (option_to_list n)) (sym is)

@@ -19,7 +19,7 @@ use Rattle.mrs_arena.specs.Paths.{IsPlace}
 use Rattle.mrs_arena.specs.Placed.{Placed, preorder, preorders}
 use Rattle.mrs_walk.specs.Gives.{Fails, Ends, Puts}
 use Rattle.mrs_walk.specs.declared.fault.ReadFault.{ReadFault}
-use Rattle.mrs_walk.proofs.AnswerLaws.{Fails-then, Fails-same, Puts-same, Puts-then, Puts-last, optional-there, optional-absent}
+use Rattle.mrs_walk.proofs.AnswerLaws.{Fails-then, Fails-same, Puts-same, Puts-then, Puts-last, optional-there}
 use Rattle.mrs_walk.proofs.EachLaws.{EachRead, EachRead-none, EachRead-next, EachRead-fails, EachRead-all}
 use Rattle.mrs_schema.specs.Drafted.{Drafted, counts, parents, named_at}
 use Rattle.mrs_schema.specs.Nodes.{named_above, children, whole}
@@ -43,13 +43,13 @@ child_of-walk named here inside Leaf is = ap (λ w. w >>> λ n. Done (Some n)) (
 child_of-walk named here inside Alias is = refl
 child_of-walk named here inside Instance is = refl
 
-pub child_is : (above : Above) (here : Spot) → at_spot child above here ≡ kind (kind_named (kinds_in above.owner)) here >>> child_walk above.named here
+child_is : (above : Above) (here : Spot) → at_spot child above here ≡ kind (kind_named (kinds_in above.owner)) here >>> child_walk above.named here
 child_is above here =
     let d = descends child above here.at here.value in
     d.walk ∙ then-same (kind (kind_named (kinds_in above.owner)) here) _ _ (λ k. child_of-walk above.named here d.inside k d.is)
 
 -- a child whose kind is read
-pub child_kind : (above : Above) (here : Spot) (k : Kind) → kind (kind_named (kinds_in above.owner)) here ≡ Done k → at_spot child above here ≡ child_walk above.named here k
+child_kind : (above : Above) (here : Spot) (k : Kind) → kind (kind_named (kinds_in above.owner)) here ≡ Done k → at_spot child above here ≡ child_walk above.named here k
 child_kind above here k is = child_is above here ∙ ap (λ (w : Walk Kind). w >>> child_walk above.named here) is
 
 -- ---- the nodes that are put
@@ -71,7 +71,7 @@ preorders-more parent n [] x = ap (λ k. preorders parent k (nodes_of (x ∷ [])
 preorders-more parent n (None ∷ found) x = preorders-more parent n found x
 preorders-more parent n (Some t ∷ found) x = front parent n (preorder parent n t) (nodes_of (found ++ x ∷ [])) (nodes_of found) x (preorders-more parent (n + length (preorder parent n t)) found x)
 
-pub nodes_more : (old : List Placed) (parent : Option ℕ) (found : List (Option Node)) (x : Option Node) (now new : List Placed) → now ≡ old ++ preorders parent (length old) (nodes_of found) → new ≡ now ++ preorders parent (length now) (nodes_of (x ∷ [])) → new ≡ old ++ preorders parent (length old) (nodes_of (found ++ x ∷ []))
+nodes_more : (old : List Placed) (parent : Option ℕ) (found : List (Option Node)) (x : Option Node) (now new : List Placed) → now ≡ old ++ preorders parent (length old) (nodes_of found) → new ≡ now ++ preorders parent (length now) (nodes_of (x ∷ [])) → new ≡ old ++ preorders parent (length old) (nodes_of (found ++ x ∷ []))
 nodes_more old parent found x now new is put =
     put
     ∙ ap (λ ns. ns ++ preorders parent (length ns) (nodes_of (x ∷ []))) is
@@ -116,9 +116,6 @@ ChildrenRead-fails {above} {at} {p} {old} {now} r v within is here at_it f h =
 abbrev found_or_none : Option (List (Option Node)) → Walk (List (Option Node))
 found_or_none found = Done (unwrap_or found [])
 
-abbrev listed : Above → Spot → Walk (Option (List (Option Node)))
-listed above list = elements_at child above list >>> λ x. Done (Some x)
-
 abbrev all_of : Above → Spot → List Value → Walk (List (Option Node))
 all_of above list vs = each (λ _. at_spot child above) list.at [] (items_view vs)
 
@@ -129,15 +126,6 @@ listed_is above here list vs there is =
 pub children_fail : (f : ReadFault) (above : Above) (here list : Spot) (vs : List Value) (c : Counts) → Some list ≡ member_at (codes "children") here → elements list ≡ Done (items_view vs) → Fails f (gives (all_of above list vs) c) → Fails f (gives (children above here) c)
 children_fail f above here list vs c there is h =
     Fails-same f _ _ (ap (λ w. gives w c) (listed_is above here list vs there is)) (Fails-then f (all_of above list vs >>> λ x. Done (Some x)) found_or_none c (Fails-then f (all_of above list vs) (λ x. Done (Some x)) c h))
-
--- a value that is no array
-pub children_misshaped : (f : ReadFault) (above : Above) (here list : Spot) (c : Counts) → Some list ≡ member_at (codes "children") here → Fails f (gives (elements list) c) → Fails f (gives (children above here) c)
-children_misshaped f above here list c there h =
-    Fails-same f _ _ (ap (λ w. gives (w >>> found_or_none) c) (optional-there (codes "children") (elements_at child above) here list there))
-    (Fails-then f (listed above list) found_or_none c (Fails-then f (elements_at child above list) (λ x. Done (Some x)) c (Fails-then f (elements list) (each (λ _. at_spot child above) list.at []) c h)))
-
-pub children_absent : (above : Above) (here : Spot) → None ≡ member_at (codes "children") here → children above here ≡ Done []
-children_absent above here none = ap (λ w. w >>> found_or_none) (optional-absent (codes "children") (elements_at child above) here none)
 
 pub children_return : {above : Above} {p : ℕ} {old now : Drafted} {i : ℕ} (here list : Spot) (vs : List Value) → Some list ≡ member_at (codes "children") here → elements list ≡ Done (items_view vs) → ChildrenRead above list.at p old now i vs → length vs ≤ i
     → Ends (children above here) (counts old) (counts now) (λ found. now.nodes ≡ old.nodes ++ preorders (Some p) (length old.nodes) (nodes_of found))

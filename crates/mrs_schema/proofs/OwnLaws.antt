@@ -1,9 +1,9 @@
 -- Laws of what a node says of itself.
-use Rattle.std.proofs.Common.{◌≡◌, ◌∙◌, sym, ap, refl, ℕ, ◌+◌, ◌-◌, ◌<◌, List, [], ◌∷◌, ◌++◌, length, length-append, add-zero, Option, Some, None, unwrap_or, Ok, codes, arith}
+use Rattle.std.proofs.Common.{◌≡◌, ◌∙◌, sym, ap, refl, ℕ, ◌+◌, ◌<◌, List, [], ◌∷◌, ◌++◌, length, add-zero, Option, Some, None, unwrap_or, Ok, codes, arith}
 use Rattle.spec_bits.specs.Item.{Item}
 use Rattle.spec_walk.specs.Limits.{Counts}
 use Rattle.spec_instructions.specs.Kind.{Kind}
-use Rattle.spec_instructions.specs.Tree.{Own}
+use Rattle.spec_instructions.specs.Tree.{Own, bare}
 use Rattle.spec_walk.specs.Walk.{Walk, Done, ◌>>>◌, gives}
 use Rattle.spec_walk.specs.Spot.{Spot, named, optional}
 use Rattle.spec_walk.proofs.WalkLaws.{gives-next}
@@ -14,14 +14,11 @@ use Rattle.mrs_arena.specs.Placed.{Placed, text_of}
 use Rattle.mrs_walk.specs.Gives.{Fails, Ends}
 use Rattle.mrs_walk.specs.declared.fault.ReadFault.{ReadFault}
 use Rattle.mrs_walk.proofs.AnswerLaws.{Fails-then, Fails-same}
-use Rattle.mrs_schema.specs.Drafted.{Drafted, counts, parents, named_at, last_named, last_items, with_items}
+use Rattle.mrs_schema.specs.Drafted.{Drafted, counts, parents, named_at, last_named, with_items}
 use Rattle.mrs_schema.specs.Nodes.{named_above}
-use Rattle.mrs_schema.proofs.PlacedLaws.{place_within, named_new, named_root, with_items-last, last_items-push}
+use Rattle.mrs_schema.proofs.PlacedLaws.{place_within, named_new, named_root, last_number, with_items-last}
 
-last_number : (nodes : List Placed) (x : Placed) → length (nodes ++ x ∷ []) - 1 ≡ length nodes
-last_number nodes x = omega (arith, length-append nodes (x ∷ []))
-
-pub parents-empty : (nodes : List Placed) → parents nodes ≡ [] → nodes ≡ []
+parents-empty : (nodes : List Placed) → parents nodes ≡ [] → nodes ≡ []
 parents-empty [] h = refl
 parents-empty (p ∷ nodes) h = absurd (cc)
 
@@ -35,16 +32,20 @@ named_at-new nodes (Some p) own h =
     let new = named_new nodes own p (place_within nodes p h) in
     omega arith
 
-pub last_named-new : (nodes : List Placed) (parent : Option ℕ) (own : Own) → IsPlace (parents nodes) parent → last_named (nodes ++ record { parent = parent; own = own } ∷ []) ≡ named_above nodes parent + named_in own.items
+last_named-new : (nodes : List Placed) (parent : Option ℕ) (own : Own) → IsPlace (parents nodes) parent → last_named (nodes ++ record { parent = parent; own = own } ∷ []) ≡ named_above nodes parent + named_in own.items
 last_named-new nodes parent own h = ap (named_at (nodes ++ record { parent = parent; own = own } ∷ [])) (last_number nodes (record { parent = parent; own = own })) ∙ named_at-new nodes parent own h
 
 -- ---- the walk, behind the node's name and count
+
+-- a node that says no more than its kind, its name and its items
+abbrev with_own : Kind → List ℕ → List Item → Own
+with_own k name items = record (bare k name) { items = items }
 
 abbrev pub refused : Spot → Walk (Option Unit)
 refused here = optional (codes "condition") condition here
 
 abbrev ended : Kind → List ℕ → Spot → Option (List Item) → Walk Own
-ended k name here items = refused here >>> λ _. Done (record { kind = k; name = name; items = unwrap_or items [] })
+ended k name here items = refused here >>> λ _. Done (with_own k name (unwrap_or items []))
 
 abbrev encoded : Kind → ℕ → Spot → List ℕ → Walk Own
 encoded k above here name = optional (codes "encoding") (encodeset above) here >>> ended k name here
@@ -61,42 +62,39 @@ own_behind {here} {k} {text} {name} {c} {d} {e} n above =
     ∙ gives-next (named here text) (λ name. counted k here >>> λ _. encoded k above here name) c d name n.named
     ∙ gives-next (counted k here) (λ _. encoded k above here name) d e tt n.counted
 
-pub own_fails-encoding : {here : Spot} {k : Kind} {text name : List ℕ} {c d e : Counts} → IsNamed here k text name c d e → (above : ℕ) (f : ReadFault) → Fails f (gives (optional (codes "encoding") (encodeset above) here) e) → Fails f (gives (own k above here) c)
+own_fails-encoding : {here : Spot} {k : Kind} {text name : List ℕ} {c d e : Counts} → IsNamed here k text name c d e → (above : ℕ) (f : ReadFault) → Fails f (gives (optional (codes "encoding") (encodeset above) here) e) → Fails f (gives (own k above here) c)
 own_fails-encoding {here} {k} {text} {name} {c} {d} {e} n above f h = Fails-same f _ _ (own_behind n above) (Fails-then f (optional (codes "encoding") (encodeset above) here) (ended k name here) e h)
 
 own_last : {here : Spot} {k : Kind} {text name : List ℕ} {c d e : Counts} → IsNamed here k text name c d e → (above : ℕ) (items : Option (List Item)) (after : Counts) → gives (optional (codes "encoding") (encodeset above) here) e ≡ Ok (items, after) → gives (own k above here) c ≡ gives (ended k name here items) after
 own_last {here} {k} {text} {name} {c} {d} {e} n above items after h = own_behind n above ∙ gives-next (optional (codes "encoding") (encodeset above) here) (ended k name here) e after items h
 
-pub own_fails-condition : {here : Spot} {k : Kind} {text name : List ℕ} {c d e : Counts} → IsNamed here k text name c d e → (above : ℕ) (items : Option (List Item)) (after : Counts) → gives (optional (codes "encoding") (encodeset above) here) e ≡ Ok (items, after)
+own_fails-condition : {here : Spot} {k : Kind} {text name : List ℕ} {c d e : Counts} → IsNamed here k text name c d e → (above : ℕ) (items : Option (List Item)) (after : Counts) → gives (optional (codes "encoding") (encodeset above) here) e ≡ Ok (items, after)
     → (f : ReadFault) → Fails f (gives (refused here) after) → Fails f (gives (own k above here) c)
-own_fails-condition {here} {k} {text} {name} n above items after h f fails = Fails-same f _ _ (own_last n above items after h) (Fails-then f (refused here) (λ _. Done (record { kind = k; name = name; items = unwrap_or items [] })) after fails)
+own_fails-condition {here} {k} {text} {name} n above items after h f fails = Fails-same f _ _ (own_last n above items after h) (Fails-then f (refused here) (λ _. Done (with_own k name (unwrap_or items []))) after fails)
 
-pub own_returns : {here : Spot} {k : Kind} {text name : List ℕ} {c d e : Counts} → IsNamed here k text name c d e → (above : ℕ) (items : Option (List Item)) (after : Counts) → gives (optional (codes "encoding") (encodeset above) here) e ≡ Ok (items, after)
-    → refused here ≡ Done None → (P : Own → Type 0) → P (record { kind = k; name = name; items = unwrap_or items [] }) → Ends (own k above here) c after P
+own_returns : {here : Spot} {k : Kind} {text name : List ℕ} {c d e : Counts} → IsNamed here k text name c d e → (above : ℕ) (items : Option (List Item)) (after : Counts) → gives (optional (codes "encoding") (encodeset above) here) e ≡ Ok (items, after)
+    → refused here ≡ Done None → (P : Own → Type 0) → P (with_own k name (unwrap_or items [])) → Ends (own k above here) c after P
 own_returns {here} {k} {text} {name} n above items after h none P p = record {
-  value = record { kind = k; name = name; items = unwrap_or items [] };
-  walked = own_last n above items after h ∙ ap (λ (w : Walk (Option Unit)). gives (w >>> λ _. Done (record { kind = k; name = name; items = unwrap_or items [] })) after) none;
+  value = with_own k name (unwrap_or items []);
+  walked = own_last n above items after h ∙ ap (λ (w : Walk (Option Unit)). gives (w >>> λ _. Done (with_own k name (unwrap_or items []))) after) none;
   stands = p;
 }
 
 -- ---- the node
 
-abbrev pub bare : Option ℕ → Kind → List ℕ → Placed
-bare parent kind name = record { parent = parent; own = record { kind = kind; name = name; items = [] } }
+abbrev pub bare_node : Option ℕ → Kind → List ℕ → Placed
+bare_node parent kind name = record { parent = parent; own = bare kind name }
 
 -- a node without items is put behind others
 pub record IsBare (old now : List Placed) (parent : Option ℕ) (kind : Kind) (name : List ℕ) : Type 0 where
   pub place : IsPlace (parents old) parent
-  pub nodes : now ≡ old ++ bare parent kind name ∷ []
+  pub nodes : now ≡ old ++ bare_node parent kind name ∷ []
 
-pub bare-named : {old now : List Placed} {parent : Option ℕ} {kind : Kind} {name : List ℕ} → IsBare old now parent kind name → last_named now ≡ named_above old parent
-bare-named {old} {now} {parent} {kind} {name} b = ap last_named b.nodes ∙ last_named-new old parent (record { kind = kind; name = name; items = [] }) b.place ∙ add-zero (named_above old parent)
+bare-named : {old now : List Placed} {parent : Option ℕ} {kind : Kind} {name : List ℕ} → IsBare old now parent kind name → last_named now ≡ named_above old parent
+bare-named {old} {now} {parent} {kind} {name} b = ap last_named b.nodes ∙ last_named-new old parent (bare kind name) b.place ∙ add-zero (named_above old parent)
 
-pub bare-items : {old now : List Placed} {parent : Option ℕ} {kind : Kind} {name : List ℕ} → IsBare old now parent kind name → last_items now ≡ []
-bare-items {old} {now} {parent} {kind} {name} b = ap last_items b.nodes ∙ last_items-push old (bare parent kind name)
-
-pub bare-put : {old now : List Placed} {parent : Option ℕ} {kind : Kind} {name : List ℕ} → IsBare old now parent kind name → (items : List Item) (new : List Placed) → new ≡ with_items items now → new ≡ old ++ record { parent = parent; own = record { kind = kind; name = name; items = items } } ∷ []
-bare-put {old} {now} {parent} {kind} {name} b items new is = is ∙ ap (with_items items) b.nodes ∙ with_items-last items old (bare parent kind name)
+bare-put : {old now : List Placed} {parent : Option ℕ} {kind : Kind} {name : List ℕ} → IsBare old now parent kind name → (items : List Item) (new : List Placed) → new ≡ with_items items now → new ≡ old ++ record { parent = parent; own = with_own kind name items } ∷ []
+bare-put {old} {now} {parent} {kind} {name} b items new is = is ∙ ap (with_items items) b.nodes ∙ with_items-last items old (bare_node parent kind name)
 
 -- a node that is named and put, from the answers of a draft
 pub record IsPut (here : Spot) (k : Kind) (parent : Option ℕ) (old now : Drafted) (text name : List ℕ) (mid : Counts) : Type 0 where
@@ -105,10 +103,10 @@ pub record IsPut (here : Spot) (k : Kind) (parent : Option ℕ) (old now : Draft
 
 pub is_put : {here : Spot} {k : Kind} {parent : Option ℕ} {old mid now : Drafted} {text : List ℕ} (id : ℕ) → IsPlace (parents old.nodes) parent → node_name here ≡ Done text
     → (n : Ends (named here text) (counts old) (counts mid) (λ t. (id < length mid.names) × (text_of mid.names id ≡ t))) → mid.nodes ≡ old.nodes → (number : ℕ)
-    → Ends (counted k here) (counts mid) (counts now) (λ _. (number ≡ length mid.nodes) × (now.nodes ≡ mid.nodes ++ bare parent k (text_of mid.names id) ∷ [])) → IsPut here k parent old now text n.value (counts mid)
+    → Ends (counted k here) (counts mid) (counts now) (λ _. (number ≡ length mid.nodes) × (now.nodes ≡ mid.nodes ++ bare_node parent k (text_of mid.names id) ∷ [])) → IsPut here k parent old now text n.value (counts mid)
 is_put {here} {k} {parent} {old} {mid} id place text_is n same number e = record {
   named = record { text_is = text_is; named = n.walked; counted = e.walked };
-  bare = record { place = place; nodes = e.stands.1 ∙ ap (λ ns. ns ++ bare parent k (text_of mid.names id) ∷ []) same ∙ ap (λ name. old.nodes ++ bare parent k name ∷ []) n.stands.1 };
+  bare = record { place = place; nodes = e.stands.1 ∙ ap (λ ns. ns ++ bare_node parent k (text_of mid.names id) ∷ []) same ∙ ap (λ name. old.nodes ++ bare_node parent k name ∷ []) n.stands.1 };
 }
 
 pub put_fails-encoding : {here : Spot} {k : Kind} {parent : Option ℕ} {old now : Drafted} {text name : List ℕ} {mid : Counts} → IsPut here k parent old now text name mid → (f : ReadFault) → Fails f (gives (optional (codes "encoding") (encodeset (last_named now.nodes)) here) (counts now)) → Fails f (gives (own k (named_above old.nodes parent) here) (counts old))

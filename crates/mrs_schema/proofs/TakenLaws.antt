@@ -41,7 +41,7 @@ held_is text (name ∷ names) = ap (λ b. b || list_any (λ held. bytes_eq held 
 abbrev name_step : Spot → List ℕ → Option ℕ → Bool → Counts → Result (List ℕ × Counts) Fault
 name_step here text (Some k) full c = Ok (text, c)
 name_step here text None true c = Err (record { at = here.at; why = TooMany })
-name_step here text None false c = Ok (text, record { held = c.held ++ text ∷ []; nodes = c.nodes; leaves = c.leaves; aliases = c.aliases })
+name_step here text None false c = Ok (text, record c { held = c.held ++ text ∷ [] })
 
 name_step-is : (here : Spot) (text : List ℕ) (c : Counts) → gives (named here text) c ≡ name_step here text (place_of text c.held) (nat_le 4194304 (length c.held)) c
 name_step-is here text c = ap (λ b. step b (nat_le 4194304 (length c.held))) (held_is text c.held) ∙ go (place_of text c.held) (nat_le 4194304 (length c.held))

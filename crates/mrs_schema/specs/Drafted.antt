@@ -5,6 +5,7 @@ use Rattle.spec_instructions.specs.Encodeset.{named_in}
 use Rattle.spec_walk.specs.Limits.{Counts}
 use Rattle.spec_instructions.specs.Kind as kind
 use Rattle.spec_instructions.specs.Kind.{Kind}
+use Rattle.spec_instructions.specs.Tree.{Own}
 use Rattle.mrs_arena.specs.Paths.{ancestors}
 use Rattle.mrs_arena.specs.Placed.{Placed}
 
@@ -49,8 +50,12 @@ named_at nodes n = named_in (flat_map (items_at nodes) (ancestors (parents nodes
 abbrev pub last_named : List Placed → ℕ
 last_named nodes = named_at nodes (length nodes - 1)
 
+-- what a node says of itself, with more items
+abbrev pub more_items : List Item → Own → Own
+more_items items own = record own { items = own.items ++ items }
+
 -- the nodes with more items at the last of them
 abbrev pub with_items : List Item → List Placed → List Placed
 with_items items [] = []
-with_items items (p ∷ []) = record p { own = record { kind = p.own.kind; name = p.own.name; items = p.own.items ++ items } } ∷ []
+with_items items (p ∷ []) = record p { own = more_items items p.own } ∷ []
 with_items items (p ∷ q ∷ rest) = p ∷ with_items items (q ∷ rest)

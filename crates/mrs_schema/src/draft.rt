@@ -31,6 +31,7 @@ impl Draft {
     ghost use Rattle.spec_walk.specs.Event.{TooMany};
     ghost use Rattle.spec_walk.specs.Spot.{named, unless};
     ghost use Rattle.spec_instructions.specs.Encodeset.{within_limits, names_of};
+    ghost use Rattle.spec_instructions.specs.Tree.{bare};
     ghost use Rattle.spec_instructions.specs.Walk.{counted};
     ghost use Rattle.mrs_names.specs.Texts.{IsExtended};
     ghost use Rattle.mrs_arena.specs.Paths.{IsPlace};
@@ -79,7 +80,7 @@ impl Draft {
             (λ _ id. (id.0 ≡ length self.old.nodes)
             × (self.new.nodes ≡ self.old.nodes ++ record {
               parent = option_map (λ p. p.0) parent;
-              own = record { kind = kind_of kind; name = text_of self.old.names name.0; items = [] };
+              own = bare (kind_of kind) (text_of self.old.names name.0);
             } ∷ [])) }
         ensures names { self.new.names ≡ self.old.names }
     {
