@@ -14,7 +14,7 @@ use Rattle.mrs_arena.specs.declared.kind.Kind.TheVariants.{Set, Group, Leaf, Ali
 use Rattle.mrs_arena.specs.Flat.{FlatItem, FlatNode}
 use Rattle.mrs_arena.specs.Nodes.{new_node, with_item}
 use Rattle.mrs_arena.specs.Limits.{is_leaf, is_alias, leaf_count, alias_count, is_kind_full, is_node_refused}
-use Rattle.mrs_arena.specs.Placed.{kind_of, placed}
+use Rattle.mrs_arena.specs.Placed.{kind_of, placed_node}
 use Rattle.mrs_arena.proofs.FormedLaws.{leaf_count-push, alias_count-push}
 use Rattle.mrs_arena.proofs.HeldLaws.{count_by-map}
 use Rattle.mrs_arena.proofs.PutLaws.{length-with_item}
@@ -37,12 +37,12 @@ alias_kind Group = refl
 alias_kind Leaf = refl
 alias_kind Alias = refl
 
-counts-placed : (names : List (List ℕ)) (nodes : List FlatNode) → counts (record { names = names; nodes = map (placed names) nodes }) ≡ put_counts names (length nodes) (leaf_count nodes) (alias_count nodes)
+counts-placed : (names : List (List ℕ)) (nodes : List FlatNode) → counts (record { names = names; nodes = map (placed_node names) nodes }) ≡ put_counts names (length nodes) (leaf_count nodes) (alias_count nodes)
 counts-placed names nodes =
-    ap (λ n. put_counts names n (count_by (λ p. is_leaf_kind p.own.kind) (map (placed names) nodes)) (count_by (λ p. is_alias_kind p.own.kind) (map (placed names) nodes))) (length-map nodes (placed names))
-    ∙ ap (λ n. put_counts names (length nodes) n (count_by (λ p. is_alias_kind p.own.kind) (map (placed names) nodes)))
-    (count_by-map (λ p. is_leaf_kind p.own.kind) (λ node. is_leaf node.kind) (placed names) nodes (λ node. leaf_kind node.kind))
-    ∙ ap (put_counts names (length nodes) (leaf_count nodes)) (count_by-map (λ p. is_alias_kind p.own.kind) (λ node. is_alias node.kind) (placed names) nodes (λ node. alias_kind node.kind))
+    ap (λ n. put_counts names n (count_by (λ p. is_leaf_kind p.own.kind) (map (placed_node names) nodes)) (count_by (λ p. is_alias_kind p.own.kind) (map (placed_node names) nodes))) (length-map nodes (placed_node names))
+    ∙ ap (λ n. put_counts names (length nodes) n (count_by (λ p. is_alias_kind p.own.kind) (map (placed_node names) nodes)))
+    (count_by-map (λ p. is_leaf_kind p.own.kind) (λ node. is_leaf node.kind) (placed_node names) nodes (λ node. leaf_kind node.kind))
+    ∙ ap (put_counts names (length nodes) (leaf_count nodes)) (count_by-map (λ p. is_alias_kind p.own.kind) (λ node. is_alias node.kind) (placed_node names) nodes (λ node. alias_kind node.kind))
 
 -- ---- one more node
 
@@ -97,8 +97,8 @@ put_counts-push names nodes kind name parent =
     ∙ ap (put_counts names (length nodes + 1) (one_more (is_leaf kind) (leaf_count nodes))) (alias_count-push nodes node ∙ one_more-is (is_alias kind) (alias_count nodes))
 
 pub node_taken : (here : Spot) (names : List (List ℕ)) (nodes : List FlatNode) (kind : Kind) (name : ℕ) (parent : Option ℕ) → is_node_refused nodes kind ≡ false
-    → gives (counted (kind_of kind) here) (counts (record { names = names; nodes = map (placed names) nodes }))
-    ≡ Ok (tt, counts (record { names = names; nodes = map (placed names) (nodes ++ new_node kind name parent ∷ []) }))
+    → gives (counted (kind_of kind) here) (counts (record { names = names; nodes = map (placed_node names) nodes }))
+    ≡ Ok (tt, counts (record { names = names; nodes = map (placed_node names) (nodes ++ new_node kind name parent ∷ []) }))
 node_taken here names nodes kind name parent room =
     let parts = or_parts (nat_le 1048576 (length nodes)) (is_kind_full kind (leaf_count nodes) (alias_count nodes)) room in
     ap (gives (counted (kind_of kind) here)) (counts-placed names nodes)
@@ -106,7 +106,7 @@ node_taken here names nodes kind name parent room =
     ∙ ap (λ c. Ok (tt, c)) (sym (put_counts-push names nodes kind name parent) ∙ sym (counts-placed names (nodes ++ new_node kind name parent ∷ [])))
 
 pub node_refused : (here : Spot) (names : List (List ℕ)) (nodes : List FlatNode) (kind : Kind) → is_node_refused nodes kind ≡ true
-    → gives (counted (kind_of kind) here) (counts (record { names = names; nodes = map (placed names) nodes })) ≡ Err (record { at = here.at; why = TooMany })
+    → gives (counted (kind_of kind) here) (counts (record { names = names; nodes = map (placed_node names) nodes })) ≡ Err (record { at = here.at; why = TooMany })
 node_refused here names nodes kind refused =
     ap (gives (counted (kind_of kind) here)) (counts-placed names nodes) ∙ counted-full kind here names (length nodes) (leaf_count nodes) (alias_count nodes) refused
 
@@ -124,7 +124,7 @@ count-with_item is it nodes =
 
 -- an item is not counted
 pub counts-with_item : (names : List (List ℕ)) (it : FlatItem) (nodes : List FlatNode)
-    → counts (record { names = names; nodes = map (placed names) nodes }) ≡ counts (record { names = names; nodes = map (placed names) (with_item it nodes) })
+    → counts (record { names = names; nodes = map (placed_node names) nodes }) ≡ counts (record { names = names; nodes = map (placed_node names) (with_item it nodes) })
 counts-with_item names it nodes =
     counts-placed names nodes
     ∙ ap (λ n. put_counts names n (leaf_count nodes) (alias_count nodes)) (sym (length-with_item it nodes))

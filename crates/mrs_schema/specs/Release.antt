@@ -5,7 +5,7 @@ use Rattle.spec_instructions.specs.Tree.{Node}
 use Rattle.spec_instructions.specs.Shape.{IsSetTree}
 use Rattle.spec_instructions.specs.Reading.{tree_read, paths_read}
 use Rattle.mrs_arena.specs.Flat.{FlatNode}
-use Rattle.mrs_arena.specs.Placed.{placed, IsTree, AreHeld, paths_of}
+use Rattle.mrs_arena.specs.Placed.{placed_node, IsTree, AreHeld, paths_of}
 use Rattle.mrs_walk.specs.Faults.{fault_of}
 use Rattle.mrs_walk.specs.declared.fault.ReadFault.{ReadFault}
 use Rattle.mrs_walk.specs.declared.fault.ReadFault.TheVariants.{Schema, NoMemory}
@@ -13,7 +13,7 @@ use Rattle.mrs_schema.specs.Drafted.{Drafted, counts}
 
 -- the nodes of an arena with the texts of their names
 abbrev pub named_nodes : List (List ℕ) → List FlatNode → Drafted
-named_nodes names nodes = record { names = names; nodes = map (placed names) nodes }
+named_nodes names nodes = record { names = names; nodes = map (placed_node names) nodes }
 
 -- the walk met no fault and passed no limit, and the nodes are those of the chosen set, the only ones that were counted
 pub record IsArenaOf (isa : List ℕ) (d : Data) (before names : List (List ℕ)) (nodes : List FlatNode) : Type 0 where

@@ -15,12 +15,12 @@ pub(crate) struct Draft {
 
 impl Model for Draft {
     ghost use Rattle.std.specs.Prelude.{map};
-    ghost use Rattle.mrs_arena.specs.Placed.{placed, AreHeld};
+    ghost use Rattle.mrs_arena.specs.Placed.{placed_node, AreHeld};
     ghost use Rattle.mrs_schema.specs.Drafted.{Drafted};
 
     ghost Value = { Drafted };
 
-    ghost view = { λ d. record { names = d.names; nodes = map (placed d.names) d.nodes } };
+    ghost view = { λ d. record { names = d.names; nodes = map (placed_node d.names) d.nodes } };
 
     ghost invariant = { λ d. AreHeld d.names d.nodes };
 }
@@ -35,7 +35,7 @@ impl Draft {
     ghost use Rattle.spec_instructions.specs.Walk.{counted};
     ghost use Rattle.mrs_names.specs.Texts.{IsExtended};
     ghost use Rattle.mrs_arena.specs.Paths.{IsPlace};
-    ghost use Rattle.mrs_arena.specs.Placed.{text_of, item_of, kind_of, placed, AreHeld};
+    ghost use Rattle.mrs_arena.specs.Placed.{text_of, item_of, kind_of, placed_node, AreHeld};
     ghost use Rattle.mrs_arena.specs.Views.{flat_item};
     ghost use Rattle.mrs_schema.specs.Drafted.{counts, parents, last_items, last_named, with_items};
     ghost use Rattle.mrs_walk.specs.Gives.{Puts};
@@ -126,7 +126,7 @@ impl Draft {
     /// The names, and the nodes that were put.
     pub fn close(self) -> (Names, Arena)
         ensures names { result.0 ≡ self.names }
-        ensures nodes { map (placed self.names) result.1 ≡ self.nodes }
+        ensures nodes { map (placed_node self.names) result.1 ≡ self.nodes }
         ensures held { AreHeld self.names result.1 }
     {
         let Draft { names, nodes } = self;

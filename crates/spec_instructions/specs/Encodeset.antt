@@ -6,6 +6,7 @@ use Rattle.spec_bits.specs.PatternText.{PatternRefusal, pattern_in}
 use Rattle.spec_bits.specs.Item.{Item}
 use Rattle.spec_walk.specs.Event.{WrongShape, BadPattern, BadRange, BadName, Doubled, TooMany}
 use Rattle.spec_instructions.specs.Name.{is_name}
+use Rattle.spec_instructions.specs.Limits.{item_limit, named_limit}
 use Rattle.spec_walk.specs.Walk.{Walk, Done, ◌>>>◌}
 use Rattle.spec_walk.specs.Spot.{Spot, wrong, unless, an_object, elements, text, number_below, needed, optional, kind, exactly, named, each}
 
@@ -113,13 +114,6 @@ item_parts earlier here ShouldBeBits = should_be here
 -- how many items have a name
 abbrev pub named_in : List Item → ℕ
 named_in items = count_by (λ it. is_some it.name) items
-
--- the most items of an encodeset, and the most named items on a path
-abbrev pub item_limit : ℕ
-item_limit = 64
-
-abbrev pub named_limit : ℕ
-named_limit = 256
 
 -- the item at a place of its encodeset, with which its path has so many named items
 abbrev pub within_limits : ℕ → ℕ → Bool

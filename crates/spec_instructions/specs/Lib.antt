@@ -1,4 +1,5 @@
 pub mod Name
+pub mod Limits
 pub mod Kind
 pub mod Encodeset
 pub mod Tree

@@ -1,7 +1,9 @@
 -- The paths from the set to each leaf, and the labels of leaves.
-use Rattle.std.specs.Prelude.{ℕ, List, [], ◌∷◌, ◌++◌, Option, if◌then◌else◌, nat_lt, bytes_eq, count_by, decimal, flat_map, slice_index_or, Bool, find, length}
+use Rattle.std.specs.Prelude.{◌≡◌, ◌≢◌, ◌↔◌, ◌<◌, ◌≤◌, ℕ, List, [], ◌∷◌, ◌++◌, Option, Some, None, if◌then◌else◌, nat_lt, bytes_eq, count_by, decimal, flat_map, slice_index_or, Bool, true, find, length, All}
 use Rattle.std.specs.List.{range_with_len}
 use Rattle.spec_bits.specs.Item.{Item}
+use Rattle.spec_walk.specs.Limits.{leaf_limit}
+use Rattle.spec_instructions.specs.Name.{is_name}
 use Rattle.spec_instructions.specs.Kind.{Kind, Set, Group, Leaf, Alias, Instance}
 use Rattle.spec_instructions.specs.Tree.{Own, Node, node, Nodes, no_nodes, more}
 
@@ -49,3 +51,27 @@ has_label paths text k = bytes_eq (label paths k) text
 
 abbrev pub labelled_leaf : List (List Own) → List ℕ → Option ℕ
 labelled_leaf paths text = find (has_label paths text) (range_with_len 0 (length paths))
+
+-- ---- what labels are for
+
+-- leaf k has the label, and no leaf before it
+pub record IsFirstLabelled (paths : List (List Own)) (text : List ℕ) (k : ℕ) : Type 0 where
+  pub within : k < length paths
+  pub has : label paths k ≡ text
+  pub first : (j : ℕ) → j < k → label paths j ≢ text
+
+-- by a label the first leaf that has it is found, and none where no leaf has it
+pub record IsFoundByLabel (paths : List (List Own)) (text : List ℕ) : Type 0 where
+  pub some : (k : ℕ) → (labelled_leaf paths text ≡ Some k) ↔ IsFirstLabelled paths text k
+  pub none : (labelled_leaf paths text ≡ None) ↔ ((k : ℕ) → k < length paths → label paths k ≢ text)
+
+abbrev pub LabelsFindLeaves : Type 0
+LabelsFindLeaves = (paths : List (List Own)) (text : List ℕ) → IsFoundByLabel paths text
+
+-- no two leaves have one label, and each is found by its own, where the leaves' names are names, which hold no `#`, and the leaves no more than there may be
+pub record AreTold (paths : List (List Own)) : Type 0 where
+  pub distinct : (j k : ℕ) → j < length paths → k < length paths → label paths j ≡ label paths k → j ≡ k
+  pub found : (k : ℕ) → k < length paths → labelled_leaf paths (label paths k) ≡ Some k
+
+abbrev pub LabelsTellLeaves : Type 0
+LabelsTellLeaves = (paths : List (List Own)) → length paths ≤ leaf_limit → All (λ path. is_name (path_name path) ≡ true) paths → AreTold paths

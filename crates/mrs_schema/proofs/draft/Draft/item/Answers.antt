@@ -7,7 +7,7 @@ use Rattle.spec_walk.specs.Spot.{unless}
 use Rattle.mrs_arena.specs.Flat.{FlatNode}
 use Rattle.mrs_arena.specs.Formed.{AreNodes}
 use Rattle.mrs_arena.specs.Views.{flat_item}
-use Rattle.mrs_arena.specs.Placed.{item_of, placed, AreHeld, text_of}
+use Rattle.mrs_arena.specs.Placed.{item_of, placed_node, AreHeld, text_of}
 use Rattle.mrs_arena.proofs.HeldLaws.{AreHeld-item}
 use Rattle.mrs_schema.specs.Drafted.{Drafted, counts, last_items, last_named, with_items}
 use Rattle.spec_instructions.specs.Encodeset.{within_limits, names_of}
@@ -38,15 +38,15 @@ returns-in-Ok-clause-steps c =
     let names = c.self.inside.names in
     let nodes = c.self.inside.nodes in
     let named = length (option_to_list c.args.it.name) in
-    let some : 0 < length nodes = omega (arith, c.requires.some, ap (λ d. length d.nodes) c.self.view_is, length-map nodes (placed names)) in
+    let some : 0 < length nodes = omega (arith, c.requires.some, ap (λ d. length d.nodes) c.self.view_is, length-map nodes (placed_node names)) in
     let put = c.in-Ok.ensures.put in
     let formed = subst AreNodes put c.in-Ok.ensures.formed in record {
       value = tt;
       walked =
           ap (λ d. gives (unless (within_limits (length (last_items d.nodes)) (last_named d.nodes + named)) here TooMany) (counts d)) (sym c.self.view_is)
           ∙ item_taken here names nodes it named (length-number c.args.it.name) some c.in-Ok.ensures.room formed
-          ∙ ap (λ ns. Ok (tt, counts (record { names = names; nodes = map (placed names) ns }))) (sym put);
-      stands = ap (map (placed names)) put ∙ placed-with_item names it nodes ∙ ap (λ d. with_items (item_of d.names it ∷ []) d.nodes) c.self.view_is;
+          ∙ ap (λ ns. Ok (tt, counts (record { names = names; nodes = map (placed_node names) ns }))) (sym put);
+      stands = ap (map (placed_node names)) put ∙ placed-with_item names it nodes ∙ ap (λ d. with_items (item_of d.names it ∷ []) d.nodes) c.self.view_is;
     }
 
 pub returns-clause-steps : goal.returns-clause-steps

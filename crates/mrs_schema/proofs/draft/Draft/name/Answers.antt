@@ -1,7 +1,7 @@
 use Rattle.std.proofs.Common.{◌∙◌, sym, ap, map, Ok, Err}
 use Rattle.spec_walk.specs.Event.{TooMany}
 use Rattle.mrs_names.proofs.PlaceLaws.{place_of-lt}
-use Rattle.mrs_arena.specs.Placed.{placed}
+use Rattle.mrs_arena.specs.Placed.{placed_node}
 use Rattle.mrs_arena.proofs.HeldLaws.{placed-extended}
 use Rattle.mrs_schema.specs.Drafted.{counts}
 use Rattle.spec_walk.specs.Spot.{named}
@@ -22,8 +22,8 @@ returns-in-Ok-clause-steps c =
       value = text;
       walked =
           ap (λ d. gives (named here text) (counts d)) (sym c.self.view_is)
-          ∙ name_taken here text old (map (placed old) nodes) c.in-Ok.ensures.room
-          ∙ ap (λ names. Ok (text, counts (record { names = names; nodes = map (placed old) nodes }))) (sym c.in-Ok.ensures.names)
+          ∙ name_taken here text old (map (placed_node old) nodes) c.in-Ok.ensures.room
+          ∙ ap (λ names. Ok (text, counts (record { names = names; nodes = map (placed_node old) nodes }))) (sym c.in-Ok.ensures.names)
           ∙ ap (λ ns. Ok (text, counts (record { names = new; nodes = ns }))) (sym (placed-extended old new nodes c.in-Ok.ensures.kept c.self.invariant));
       stands = (place_of-lt text new c.in-Ok.id.0 place, text_of-place text new c.in-Ok.id.0 place);
     }
@@ -38,5 +38,5 @@ returns-clause-steps c =
     let names = c.self.inside.names in
     Fails-made c.fault.result here TooMany _ c.fault.ensures (
     ap (λ d. gives (named here text) (counts d)) (sym c.self.view_is)
-    ∙ name_refused here text names (map (placed names) c.self.inside.nodes) (c.in-Err-Full.ensures.full (ap Err c.in-Err-Full.field-0-is))
+    ∙ name_refused here text names (map (placed_node names) c.self.inside.nodes) (c.in-Err-Full.ensures.full (ap Err c.in-Err-Full.field-0-is))
     )

@@ -6,7 +6,7 @@ use Rattle.spec_instructions.specs.Walk.{counted}
 use Rattle.mrs_arena.specs.Flat.{FlatNode}
 use Rattle.mrs_arena.specs.Nodes.{new_node}
 use Rattle.mrs_arena.specs.Paths.{IsPlace}
-use Rattle.mrs_arena.specs.Placed.{kind_of, placed, AreHeld}
+use Rattle.mrs_arena.specs.Placed.{kind_of, placed_node, AreHeld}
 use Rattle.mrs_arena.proofs.HeldLaws.{parents-placed, AreHeld-node}
 use Rattle.mrs_schema.specs.Drafted.{Drafted, counts, parents}
 use Rattle.mrs_walk.specs.Here.{spot_of}
@@ -38,11 +38,11 @@ returns-in-Ok-clause-steps c =
       walked =
           ap (λ d. gives (counted (kind_of kind) here) (counts d)) (sym c.self.view_is)
           ∙ node_taken here names nodes kind c.args.name.0 parent c.in-Ok.ensures.room
-          ∙ ap (λ ns. Ok (tt, counts (record { names = names; nodes = map (placed names) ns }))) (sym c.in-Ok.ensures.put);
+          ∙ ap (λ ns. Ok (tt, counts (record { names = names; nodes = map (placed_node names) ns }))) (sym c.in-Ok.ensures.put);
       stands = (
-        c.in-Ok.ensures.number ∙ sym (length-map nodes (placed names)) ∙ ap (λ d. length d.nodes) c.self.view_is,
-        ap (map (placed names)) c.in-Ok.ensures.put ∙ map_push (placed names) nodes (new_node kind c.args.name.0 parent)
-            ∙ ap (λ d. d.nodes ++ placed d.names (new_node kind c.args.name.0 parent) ∷ []) c.self.view_is,
+        c.in-Ok.ensures.number ∙ sym (length-map nodes (placed_node names)) ∙ ap (λ d. length d.nodes) c.self.view_is,
+        ap (map (placed_node names)) c.in-Ok.ensures.put ∙ map_push (placed_node names) nodes (new_node kind c.args.name.0 parent)
+            ∙ ap (λ d. d.nodes ++ placed_node d.names (new_node kind c.args.name.0 parent) ∷ []) c.self.view_is,
       );
     }
 
