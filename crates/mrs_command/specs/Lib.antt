@@ -1,2 +1,3 @@
 pub mod Verb
 pub mod Words
+pub mod Asked

@@ -1,12 +1,14 @@
 //! A command and its settings.
-ghost use Rattle.std.specs.Prelude.{◌≡◌, ◌<◌, ◌^◌, length, map, string_bytes, IsTrue, is_some, option_map};
+ghost use Rattle.std.specs.Prelude.{◌≡◌, ◌<◌, ◌^◌, length, map, string_bytes, IsTrue, option_map};
 ghost use Rattle.std.specs.List.{list_all};
 ghost use Rattle.spec_command.specs.Setting.{settings_in};
-ghost use Rattle.spec_command.specs.Command.{value_of, has_needed};
+ghost use Rattle.spec_command.specs.Command.{value_of, release_in, request_of};
 ghost use Rattle.mrs_command.specs.Words.{is_setting};
 ghost use Rattle.mrs_command.specs.Verb.{verb_of};
+ghost use Rattle.mrs_command.specs.Asked.{release_of, asked_of};
 
 use crate::pairs::Pairs;
+use crate::request::{Release, Request};
 use crate::verb::Verb;
 use std::marker::Model;
 
@@ -49,7 +51,7 @@ impl<'a> Command<'a> {
     }
 
     /// The keys and values that follow the command, in the order of the words.
-    pub fn pairs(&self) -> Pairs<'_>
+    pub fn pairs(&self) -> Pairs<'a>
         ensures value { result ≡ self.now.pairs }
         ensures few { length result < 2 ^ 64 }
     {
@@ -57,7 +59,7 @@ impl<'a> Command<'a> {
     }
 
     /// The value of the first word with that key; `None` exactly where no word has it.
-    pub fn value(&self, key: &str) -> Option<&str>
+    pub fn value(&self, key: &str) -> Option<&'a str>
         ensures { option_map (λ value. value.now) result ≡ value_of key.now self.now }
     {
         for (found, value) in self.pairs() {
@@ -68,17 +70,29 @@ impl<'a> Command<'a> {
         None
     }
 
-    /// Whether each key that the command needs has a value.
-    #[tactic(auto, using(crate::proofs::Keys::all_keys))]
-    pub(crate) fn has_needed(&self) -> bool
-        ensures { result ≡ has_needed self.now }
+    /// The set that the command asks for; `None` exactly where no document is named.
+    fn release(&self) -> Option<Release<'a>>
+        ensures { option_map release_of result ≡ release_in self.now }
     {
-        self.has_all(self.verb.needed_keys())
+        let insns = self.value("insns")?;
+        let isa = match self.value("isa") {
+            Some(isa) => isa,
+            None => "A64",
+        };
+        Some(Release { insns, isa })
     }
 
-    fn has_all(&self, keys: &[&str]) -> bool
-        ensures { result ≡ list_all (λ key. is_some (value_of key.now self.now)) keys.now }
+    /// What the command asks for; `None` exactly where a key that it needs has no value.
+    pub(crate) fn request(&self) -> Option<Request<'a>>
+        ensures { option_map asked_of result ≡ request_of self.now }
     {
-        keys.iter().all(|key| self.value(key).is_some())
+        let release = self.release()?;
+        match self.verb {
+            Verb::List => Some(Request::List { release }),
+            Verb::Leaf => {
+                let label = self.value("label")?;
+                Some(Request::Leaf { release, label })
+            }
+        }
     }
 }

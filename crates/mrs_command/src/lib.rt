@@ -4,12 +4,10 @@
 mod command;
 mod pairs;
 mod reading;
-mod verb;
-
-pub use command::Command;
-pub use pairs::Pairs;
-pub use reading::{BadWord, read_command};
-pub use verb::Verb;
-
+mod request;
 #[cfg(test)]
 mod tests;
+mod verb;
+
+pub use reading::{BadWord, read_request};
+pub use request::{Release, Request};

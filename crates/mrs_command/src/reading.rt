@@ -5,8 +5,10 @@ ghost use Rattle.spec_command.specs.Setting.{setting_in};
 ghost use Rattle.spec_command.specs.Command as spec;
 ghost use Rattle.mrs_command.specs.Words.{is_setting};
 ghost use Rattle.mrs_command.specs.Verb.{verb_of};
+ghost use Rattle.mrs_command.specs.Asked.{asked_of};
 
 use crate::command::Command;
+use crate::request::Request;
 use crate::verb::Verb;
 
 /// The word at `place`, from 0, is not as demanded; at the number of words, a key is missing.
@@ -15,15 +17,15 @@ pub struct BadWord {
     pub place: u64,
 }
 
-/// The command that the words of a command line say, or the place of the first bad word.
+/// What the words of a command line ask for, or the place of the first bad word.
 ///
 /// The first word is the command, and each other word is `key=value`, split at its first `=`. Bad words are an unknown
 /// command, a word without a `=`, a key that the command does not have, a key that an earlier word has, and an empty
 /// value. A missing command is place 0. Where no word is bad, a missing key is refused at the number of words.
-pub fn read_command(words: &[String]) -> Result<Command<'_>, BadWord>
+pub fn read_request(words: &[String]) -> Result<Request<'_>, BadWord>
     ensures { MatchResult result
-        (λ command. spec.command (map string_bytes words.now) ≡ Ok command)
-        (λ bad. spec.command (map string_bytes words.now) ≡ Err bad.place) }
+        (λ asked. spec.request (map string_bytes words.now) ≡ Ok (asked_of asked))
+        (λ bad. spec.request (map string_bytes words.now) ≡ Err bad.place) }
 {
     let [first, settings @ ..] = words else {
         return Err(BadWord { place: 0 });
@@ -36,13 +38,11 @@ pub fn read_command(words: &[String]) -> Result<Command<'_>, BadWord>
             place: place as u64 + 1,
         });
     }
-    let command = Command::new(verb, settings);
-    if command.has_needed() {
-        Ok(command)
-    } else {
-        Err(BadWord {
+    match Command::new(verb, settings).request() {
+        Some(asked) => Ok(asked),
+        None => Err(BadWord {
             place: words.len() as u64,
-        })
+        }),
     }
 }
 

@@ -1,56 +1,74 @@
 -- A run whose document was accepted does what becomes of the command.
-use Rattle.std.proofs.Common.{◌≡◌, ℕ, List, Option, IfSome, Ok, inr, refl, subst, sym, arith}
-use Rattle.spec_io.specs.Documents.{Document}
-use Rattle.spec_instructions.specs.Tree.{Own}
-use Rattle.spec_command.specs.Verb.{Verb, ListWords, Leaf}
-use Rattle.spec_command.specs.Command.{Command, command}
-use Rattle.spec_run.specs.Request.{insns_of, isa_of, label_of}
-use Rattle.spec_run.specs.Outcome.{End, Done, Ragged, Usage, Document as Refused, Question, ReadFault, WriteFault, Limit, NoMemory, Insns, Input, opened}
-use Rattle.spec_run.specs.Scene.{Scene, Reading, Writing}
-use Rattle.spec_run.specs.Answers.{Means, Follows, CommandDecides, Performs}
-use Rattle.mrs_query.specs.Opened.{Fetches}
-use Rattle.mrs_query.specs.Ended.{CommandEnds}
+use Rattle.std.proofs.Common.{◌≡◌, ◌≤◌, Ok, Err, inl, inr, ap, arith}
+use Rattle.spec_io.specs.States.{Reading, Writing}
+use Rattle.spec_command.specs.Command.{Request}
+use Rattle.spec_run.specs.Outcome.{End, Done, Ragged, Usage, Document as Refused, Question, ReadFault, WriteFault, Limit, NoMemory, Insns, Input}
+use Rattle.spec_run.specs.Work.{Work, Needs, opened, work_of}
+use Rattle.spec_run.specs.Ran.{Ran}
+use Rattle.spec_run.specs.Scene.{Scene}
+use Rattle.spec_run.specs.Answers.{IsUsage, Means, Says, Untouched, CommandDecides, Performs}
+use Rattle.mrs_query.specs.Opened.{Opens}
+use Rattle.mrs_query.specs.End.{end_of}
+use Rattle.mrs_query.specs.declared.status.Status.{Status}
+use Rattle.mrs_query.specs.declared.status.Status.TheVariants as status
+use Rattle.mrs_query.specs.declared.status.Which.TheVariants as which
 
-module _ (words : List (List ℕ)) (asked : Command) (docs : Option (List Document)) (shelf shelf_after : ℕ) (paths : List (List Own)) (input input_after : Reading) (out out_after : Writing)
-    (says : command words ≡ Ok asked) (same : shelf_after ≡ shelf) (accepted : IfSome docs (λ all. opened asked all ≡ Ok paths)) where
-  abbrev scene : Scene
-  scene = record { words = words; documents = docs; documents_after = docs; shelf_faults = shelf; shelf_faults_after = shelf_after; input = input; input_after = input_after; out = out; out_after = out_after }
+-- no work ends as refused words do
+pub never_usage : (input input_after : Reading) (out out_after : Writing) (work : Work) (end : End) → Ran input input_after out out_after work end → IsUsage end → ⊥
+never_usage input input_after out out_after work Done h usage = usage
+never_usage input input_after out out_after work (Ragged rest) h usage = usage
+never_usage input input_after out out_after work (Usage place) h usage = h.meaning
+never_usage input input_after out out_after work (Refused which fault) h usage = usage
+never_usage input input_after out out_after work (Question fault) h usage = usage
+never_usage input input_after out out_after work (ReadFault which) h usage = usage
+never_usage input input_after out out_after work WriteFault h usage = usage
+never_usage input input_after out out_after work (Limit which) h usage = usage
+never_usage input input_after out out_after work NoMemory h usage = usage
 
-  abbrev Ends : Verb → End → Type 0
-  Ends verb end = Follows verb (label_of asked) paths input input_after out out_after end
+-- a document decided, or memory ran out before the command was begun
+pub performs_refusal : (s : Scene) (asked : Request) (end : Status) → Says s asked → Opens (opened asked) s.shelf s.shelf_after (Err end) → s.shelf_after.documents ≡ s.shelf.documents → s.shelf.faults ≤ s.shelf_after.faults → Untouched s → Performs (end_of end) s
+performs_refusal s asked end says opens same later still = record {
+  meaning = means end opens;
+  kept = record { documents = same; shelf = later; input = omega (arith, ap (λ r. r.faults) still.input); out = omega (arith, still.count) };
+}
+  where
+    means : (end : Status) → Opens (opened asked) s.shelf s.shelf_after (Err end) → Means (end_of end) s
+    means status.NoMemory h = record { asked = asked; says = says; shelf = h; reached = inl still }
+    means (status.ReadFault which.Insns) h = record { asked = asked; says = says; cause = h; untouched = still }
+    means (status.Document which.Insns fault) h = record { asked = asked; says = says; cause = h.1; shelf = h.0; untouched = still }
+    means (status.Limit which.Insns) h = record { asked = asked; says = says; cause = h.1; shelf = h.0; untouched = still }
+    means (status.ReadFault which.Input) h = absurd h
+    means (status.Document which.Input fault) h = absurd h
+    means (status.Limit which.Input) h = absurd h
+    means status.Done h = absurd h
+    means (status.Ragged rest) h = absurd h
+    means (status.Usage place) h = absurd h
+    means (status.Question fault) h = absurd h
+    means status.WriteFault h = absurd h
 
-  decides : (end : End) → Ends asked.verb end → CommandDecides scene end
-  decides end h = record { asked = asked; paths = paths; says = says; accepted = accepted; shelf = same; follows = h }
+module _ (s : Scene) (asked : Request) (found : Needs asked) (says : Says s asked) (opens : Opens (opened asked) s.shelf s.shelf_after (Ok found)) where
+  abbrev Ends : End → Type 0
+  Ends end = Ran s.input s.input_after s.out s.out_after (work_of asked found) end
 
-  -- what neither command ends in
-  never : (verb : Verb) (end : End) → (Ends ListWords end → ⊥) → (Ends Leaf end → ⊥) → Ends verb end → ⊥
-  never ListWords end list leaf h = list h
-  never Leaf end list leaf h = leaf h
+  decides : (end : End) → Ends end → CommandDecides s end
+  decides end h = record { asked = asked; found = found; says = says; accepted = opens.1; shelf = opens.0; ran = h }
 
-  means : (end : End) → Ends asked.verb end → Means end scene
+  means : (end : End) → Ends end → Means end s
   means Done h = decides Done h
   means (Ragged rest) h = decides (Ragged rest) h
   means (Question fault) h = decides (Question fault) h
   means (Limit Input) h = decides (Limit Input) h
-  means (Limit Insns) h = absurd (never asked.verb (Limit Insns) (λ bad. bad) (λ bad. bad.1) h)
+  means (Limit Insns) h = absurd h.meaning
   means (ReadFault Input) h = decides (ReadFault Input) h
-  means (ReadFault Insns) h = absurd (never asked.verb (ReadFault Insns) (λ bad. bad) (λ bad. bad.1) h)
+  means (ReadFault Insns) h = absurd h.meaning
   means WriteFault h = decides WriteFault h
-  means NoMemory h = record { asked = asked; says = says; shelf = same; reached = inr (decides NoMemory h) }
-  means (Usage place) h = absurd (never asked.verb (Usage place) (λ bad. bad) (λ bad. bad.1) h)
-  means (Refused which fault) h = absurd (never asked.verb (Refused which fault) (λ bad. bad) (λ bad. bad.1) h)
+  means NoMemory h = record { asked = asked; says = says; shelf = opens.0; reached = inr (decides NoMemory h) }
+  means (Usage place) h = absurd h.meaning
+  means (Refused which fault) h = absurd h.meaning
 
-  performs : (end : End) → CommandEnds asked paths input input_after out out_after end → Performs end scene
-  performs end h = record {
-    meaning = means end h.meaning;
-    reading = h.reading;
-    kept = record { documents = refl; shelf = omega (arith, same); input = h.input_count; out = h.out_count };
+  -- the document was fetched and accepted
+  pub performs_command : (end : End) → s.shelf_after.documents ≡ s.shelf.documents → Ends end → Performs end s
+  performs_command end same h = record {
+    meaning = means end h;
+    kept = record { documents = same; shelf = omega (arith, opens.0); input = h.input_count; out = h.out_count };
   }
-
--- the document was fetched and accepted
-pub performs_command : (words : List (List ℕ)) (asked : Command) (docs docs_after : Option (List Document)) (shelf shelf_after : ℕ) (input input_after : Reading) (out out_after : Writing) (end : End) (paths : List (List Own))
-    → command words ≡ Ok asked → docs_after ≡ docs → Fetches docs (insns_of asked) (isa_of asked) shelf shelf_after (Ok paths) → CommandEnds asked paths input input_after out out_after end
-    → Performs end (record { words = words; documents = docs; documents_after = docs_after; shelf_faults = shelf; shelf_faults_after = shelf_after; input = input; input_after = input_after; out = out; out_after = out_after })
-performs_command words asked docs docs_after shelf shelf_after input input_after out out_after end paths says same h ends =
-    let done = performs words asked docs shelf shelf_after paths input input_after out out_after says h.0 h.1 end ends in
-    subst (λ d. Performs end (record { words = words; documents = docs; documents_after = d; shelf_faults = shelf; shelf_faults_after = shelf_after; input = input; input_after = input_after; out = out; out_after = out_after })) (sym same) done

@@ -1,7 +1,8 @@
 -- What the document gives: its paths, or the status that it decides.
 use Rattle.std.specs.Prelude.{◌≡◌, ◌⊎◌, ℕ, List, Option, Some, None, Result, Ok, Err, IfSome, IsSomeAnd, ⊤}
 use Rattle.spec_io.specs.Faults.{Rose}
-use Rattle.spec_io.specs.Documents.{Document, document_of}
+use Rattle.spec_io.specs.Documents.{Document}
+use Rattle.spec_io.specs.States.{Shelving}
 use Rattle.spec_instructions.specs.Tree.{Own}
 use Rattle.spec_run.specs.Outcome as run
 use Rattle.mrs_query.specs.declared.status.Status.{Status}
@@ -25,16 +26,18 @@ Read isa value (Ok paths) = run.of_value isa value ≡ Ok paths
 Read isa value (Err status.NoMemory) = ⊤
 Read isa value (Err end) = run.of_value isa value ≡ Err (end_of end)
 
--- the same of the document of that name, which is fetched first
-module _ (told : Option (List Document)) (name isa : List ℕ) where
-  -- a shelf that tells its documents has one of the name, of which this becomes
-  abbrev pub Gives : Result (List (List Own)) run.End → Type 0
-  Gives end = IfSome told (λ docs. run.of_document isa (document_of name docs) ≡ end)
+-- what is made of the documents, where the shelf tells them; the count of faults stays, unless the shelf failed
+module _ {A : Type 0} (given : List Document → Result A run.End) (shelf shelf_after : Shelving) where
+  abbrev pub Still : Type 0
+  Still = shelf_after.faults ≡ shelf.faults
 
-  abbrev pub Fetches : ℕ → ℕ → Result (List (List Own)) Status → Type 0
-  Fetches before after (Ok paths) = (after ≡ before) × Gives (Ok paths)
-  Fetches before after (Err status.NoMemory) = after ≡ before
-  Fetches before after (Err (status.ReadFault which.Insns)) = Rose before after ⊎ IsSomeAnd told (λ docs. document_of name docs ≡ None)
-  Fetches before after (Err (status.Document which.Insns fault)) = (after ≡ before) × Gives (Err (run.Document run.Insns (fault_of fault)))
-  Fetches before after (Err (status.Limit which.Insns)) = (after ≡ before) × Gives (Err (run.Limit run.Insns))
-  Fetches before after (Err end) = ⊥
+  abbrev pub Gives : Result A run.End → Type 0
+  Gives end = IfSome shelf.documents (λ docs. given docs ≡ end)
+
+  abbrev pub Opens : Result A Status → Type 0
+  Opens (Ok found) = Still × Gives (Ok found)
+  Opens (Err status.NoMemory) = Still
+  Opens (Err (status.ReadFault which.Insns)) = Rose shelf.faults shelf_after.faults ⊎ IsSomeAnd shelf.documents (λ docs. given docs ≡ Err (run.ReadFault run.Insns))
+  Opens (Err (status.Document which.Insns fault)) = Still × Gives (Err (run.Document run.Insns (fault_of fault)))
+  Opens (Err (status.Limit which.Insns)) = Still × Gives (Err (run.Limit run.Insns))
+  Opens (Err end) = ⊥

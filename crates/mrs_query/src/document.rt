@@ -1,8 +1,9 @@
 //! The Instructions document: fetched, read as JSON, and read as the tree of one of its sets.
 ghost use Rattle.std.specs.Prelude.{◌≡◌, ◌≤◌, Some};
 ghost use Rattle.serde_json.specs.View.{view};
-ghost use Rattle.spec_run.specs.Outcome.{json_in};
-ghost use Rattle.mrs_query.specs.Opened.{Read, Fetches, Parsed};
+ghost use Rattle.spec_run.specs.Outcome.{json_in, release_opened};
+ghost use Rattle.mrs_query.specs.Opened.{Read, Opens, Parsed};
+ghost use Rattle.mrs_command.specs.Asked.{release_of};
 
 use crate::release::Release;
 use crate::{DocFault, Status, Which};
@@ -17,18 +18,17 @@ use std::alloc::Global;
 const DOCUMENT_LIMIT: u64 = 268_435_456;
 
 /// The set `isa` of a document of this name, or the status that the document decides.
-pub(crate) fn open_document<V: Shelf>(
+pub(crate) fn open_release<V: Shelf>(
     alloc: Global,
     shelf: &mut V,
-    name: &str,
-    isa: &str,
+    of: mrs_command::Release<'_>,
 ) -> Result<Release, Status>
-    ensures fetched { Fetches (V.holds shelf.old) name.now isa.now (V.faults shelf.old) (V.faults shelf.new) result }
-    ensures same { V.holds shelf.new ≡ V.holds shelf.old }
-    ensures later { V.faults shelf.old ≤ V.faults shelf.new }
+    ensures opens { Opens (release_opened (release_of of.entry)) (V.shelving shelf.old) (V.shelving shelf.new) result }
+    ensures same { (V.shelving shelf.new).documents ≡ (V.shelving shelf.old).documents }
+    ensures later { (V.shelving shelf.old).faults ≤ (V.shelving shelf.new).faults }
 {
-    match shelf.fetch(alloc, name, DOCUMENT_LIMIT) {
-        Ok(bytes) => read_document(alloc, &bytes, isa),
+    match shelf.fetch(alloc, of.insns, DOCUMENT_LIMIT) {
+        Ok(bytes) => read_document(alloc, &bytes, of.isa),
         Err(FetchFault::Failed) => Err(Status::ReadFault {
             which: Which::Insns,
         }),

@@ -5,7 +5,9 @@ ghost use Rattle.bit_pattern.specs.Digits.{digit_at, digits_below};
 ghost use Rattle.bit_pattern.specs.Views.{digits_of};
 ghost use Rattle.spec_lines.specs.Leaf.{bits_text, leaf_text, digit_text};
 ghost use Rattle.spec_run.specs.Answers.{IsEarly};
-ghost use Rattle.spec_run.specs.Shown.{Shown};
+ghost use Rattle.spec_run.specs.Outcome.{leaf_outcome};
+ghost use Rattle.spec_instructions.specs.Paths.{labelled_leaf};
+ghost use Rattle.mrs_query.specs.Ended.{Ended};
 ghost use Rattle.mrs_query.specs.End.{end_of};
 
 use crate::label::push_label;
@@ -22,10 +24,7 @@ pub(crate) fn show_leaf<K: Sink>(
     label: &str,
     out: &mut K,
 ) -> Status
-    ensures shown { Shown release.now label.now
-        (record { taken = K.taken out.old; faults = K.faults out.old }) (record { taken = K.taken out.new; faults = K.faults out.new })
-        (end_of result) }
-    ensures count { K.faults out.old ≤ K.faults out.new }
+    ensures ended { Ended (K.writing out.old) (K.writing out.new) (leaf_outcome release.now (labelled_leaf release.now label.now)) (end_of result) }
     ensures early { IsEarly (end_of result) → out.new ≡ out.old }
 {
     let Some(k) = release.find_label(label) else {

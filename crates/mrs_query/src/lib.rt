@@ -11,7 +11,6 @@ mod matches;
 mod message;
 mod parts;
 mod release;
-mod request;
 mod status;
 mod stream;
 mod top;
@@ -19,5 +18,3 @@ mod top;
 pub use status::{DocFault, QuestionFault, Status, Which};
 pub use top::run;
 
-#[cfg(test)]
-mod tests;

@@ -1,7 +1,8 @@
 //! The stream: read in large pieces, and its lines written in large pieces.
 ghost use Rattle.std.specs.Prelude.{◌≡◌, ◌+◌, ◌*◌, ◌<◌, ◌^◌, length};
 ghost use Rattle.spec_lines.specs.Listing.{rest_in};
-ghost use Rattle.spec_run.specs.Streamed.{StreamEnds};
+ghost use Rattle.spec_run.specs.Work.{Reads, list_work};
+ghost use Rattle.spec_run.specs.Ran.{Ran};
 ghost use Rattle.mrs_query.specs.End.{end_of};
 ghost use Rattle.mrs_query.specs.Pieces.{PieceEnds, PieceCause, Finished, Probed, status_of};
 
@@ -48,9 +49,9 @@ fn list_piece<S: Source, K: Sink>(
     leaves: &mut Vec<u32>,
 ) -> Result<usize, Stop>
     requires { offset + length buffer.old < 2 ^ 64 }
-    ensures piece { PieceEnds release.now offset (length buffer.new) (S.left input.old) (S.left input.new)
-        (K.taken out.old) (K.taken out.new) buffer.new result }
-    ensures cause { PieceCause (S.faults input.old) (S.faults input.new) (K.faults out.old) (K.faults out.new) result }
+    ensures piece { PieceEnds release.now offset (length buffer.new) (S.reading input.old) (S.reading input.new)
+        (K.writing out.old) (K.writing out.new) buffer.new result }
+    ensures cause { PieceCause (S.reading input.old) (S.reading input.new) (K.writing out.old) (K.writing out.new) result }
 {
     let Ok(n) = fill(input, buffer) else {
         return Err(Stop::Input);
@@ -76,7 +77,7 @@ fn rest_of(last: &[u8]) -> &[u8]
 #[tactic(auto, using(spec_lines::proofs::Streams::rest_offset, spec_lines::proofs::Streams::length_rest_in_lt))]
 fn finish<K: Sink>(offset: u64, last: &[u8], out: &mut K, lines: &mut Vec<u8>) -> Status
     requires { offset + length last.now < 2 ^ 64 }
-    ensures { Finished offset last.now (K.taken out.old) (K.taken out.new) (K.faults out.old) (K.faults out.new) result }
+    ensures { Finished offset last.now (K.writing out.old) (K.writing out.new) result }
 {
     let rest = rest_of(last);
     if rest.is_empty() {
@@ -97,7 +98,7 @@ fn finish<K: Sink>(offset: u64, last: &[u8], out: &mut K, lines: &mut Vec<u8>) -
 
 /// Looks for a byte past the limit of the stream.
 fn probe<S: Source>(input: &mut S) -> Status
-    ensures { Probed (S.left input.old) (S.left input.new) (S.faults input.old) (S.faults input.new) result }
+    ensures { Probed (S.reading input.old) (S.reading input.new) result }
 {
     let mut next = [0u8; 1];
     match fill(input, &mut next) {
@@ -133,10 +134,8 @@ fn list_pieces<S: Source, K: Sink>(
     buffer: &mut [u8],
 ) -> Status
     requires { length buffer.old ≡ 65536 }
-    ensures { StreamEnds release.now
-        (record { left = S.left input.old; faults = S.faults input.old }) (record { left = S.left input.new; faults = S.faults input.new })
-        (record { taken = K.taken out.old; faults = K.faults out.old }) (record { taken = K.taken out.new; faults = K.faults out.new })
-        (end_of result) }
+    ensures { Ran (S.reading input.old) (S.reading input.new) (K.writing out.old) (K.writing out.new)
+        (Reads (list_work release.now)) (end_of result) }
 {
     let mut lines = Vec::new(alloc);
     let mut leaves = Vec::new(alloc);
@@ -160,10 +159,8 @@ pub(crate) fn list_stream<S: Source, K: Sink>(
     input: &mut S,
     out: &mut K,
 ) -> Status
-    ensures { StreamEnds release.now
-        (record { left = S.left input.old; faults = S.faults input.old }) (record { left = S.left input.new; faults = S.faults input.new })
-        (record { taken = K.taken out.old; faults = K.faults out.old }) (record { taken = K.taken out.new; faults = K.faults out.new })
-        (end_of result) }
+    ensures { Ran (S.reading input.old) (S.reading input.new) (K.writing out.old) (K.writing out.new)
+        (Reads (list_work release.now)) (end_of result) }
 {
     match vec![in alloc; 0u8; PIECE] {
         Ok(mut buffer) => list_pieces(alloc, release, input, out, buffer.as_mut_slice()),

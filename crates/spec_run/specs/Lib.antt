@@ -1,7 +1,7 @@
-pub mod Request
 pub mod Outcome
+pub mod Work
 pub mod Scene
-pub mod Streamed
-pub mod Shown
+pub mod Ran
 pub mod Answers
+pub mod Fits
 pub mod Exact

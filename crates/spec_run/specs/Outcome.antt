@@ -6,13 +6,10 @@ use Rattle.serde_json.specs.Data.{Data}
 use Rattle.serde_json.specs.Read.{read}
 use Rattle.spec_walk.specs.Event.{Fault, Why, Missing, UnlistedKind, WrongShape, BadPattern, BadRange, BadName, Doubled, TooMany, NoSet, NotYet}
 use Rattle.spec_instructions.specs.Tree.{Own}
-use Rattle.spec_instructions.specs.Paths.{labelled_leaf}
 use Rattle.spec_instructions.specs.Reading.{paths_read}
 use Rattle.spec_lines.specs.Listing.{words_in, rest_in, listing, stream_lines}
 use Rattle.spec_lines.specs.Leaf.{leaf_text}
-use Rattle.spec_command.specs.Verb.{Verb, ListWords, Leaf}
-use Rattle.spec_command.specs.Command.{Command, command}
-use Rattle.spec_run.specs.Request.{insns_of, isa_of, label_of}
+use Rattle.spec_command.specs.Command.{Release}
 
 -- what a status names: the Instructions document, or the stream
 pub data Which : Type 0 where
@@ -68,9 +65,9 @@ abbrev pub of_document : List ℕ → Option (List ℕ) → Result (List (List O
 of_document isa None = Err (ReadFault Insns)
 of_document isa (Some bytes) = if nat_lt document_limit (length bytes) then Err (Limit Insns) else of_value isa (json_in bytes)
 
--- the paths to the leaves of the set that a command asks for, or the status that decides before
-abbrev pub opened : Command → List Named → Result (List (List Own)) End
-opened c docs = of_document (isa_of c) (document_of (insns_of c) docs)
+-- the paths to the leaves of a set, or the status that its document decides
+abbrev pub release_opened : Release → List Named → Result (List (List Own)) End
+release_opened release docs = of_document release.isa (document_of release.insns docs)
 
 -- ---- the stream
 
@@ -93,23 +90,6 @@ stream_outcome paths bytes =
 abbrev pub leaf_outcome : List (List Own) → Option ℕ → Outcome
 leaf_outcome paths None = record { end = Question NoLeaf; out = [] }
 leaf_outcome paths (Some k) = record { end = Done; out = leaf_text paths k }
-
--- ---- the whole run: the words, then the document, then what the command asks for
-
-abbrev pub answered : Verb → List ℕ → List (List Own) → List ℕ → Outcome
-answered ListWords label paths bytes = stream_outcome paths bytes
-answered Leaf label paths bytes = leaf_outcome paths (labelled_leaf paths label)
-
-abbrev pub after_opening : Command → Result (List (List Own)) End → List ℕ → Outcome
-after_opening c (Err end) bytes = record { end = end; out = [] }
-after_opening c (Ok paths) bytes = answered c.verb (label_of c) paths bytes
-
-abbrev pub of_command : Result Command ℕ → List Named → List ℕ → Outcome
-of_command (Err place) docs bytes = record { end = Usage place; out = [] }
-of_command (Ok c) docs bytes = after_opening c (opened c docs) bytes
-
-abbrev pub outcome : List (List ℕ) → List Named → List ℕ → Outcome
-outcome words docs bytes = of_command (command words) docs bytes
 
 -- ---- the number with which the program ends, and the text on `err`
 

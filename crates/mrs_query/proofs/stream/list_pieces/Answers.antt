@@ -6,13 +6,13 @@ pub returns-in-Err : goal.returns-in-Err
 returns-in-Err g c =
     let few : c.loop-k.k < 65536 = omega arith in
     let room : length c.list_piece.new.buffer ≡ 65536 = omega (arith, c.list_piece.auto.buffer, c.loop-k.invariant.room) in
-    rw c.stop_status.ensures (stopped _ _ _ _ _ _ _ _ _ _ _ _ _ c.loop-k.k c.list_piece.new.buffer c.in-Err.stop few room c.loop-k.invariant.input_later c.loop-k.invariant.out_later c.loop-k.invariant.progress c.in-Err.ensures.piece c.in-Err.ensures.cause)
+    rw c.stop_status.ensures (stopped _ _ _ _ _ _ _ c.loop-k.k c.list_piece.new.buffer c.in-Err.stop few room c.loop-k.invariant.input_later c.loop-k.invariant.out_later c.loop-k.invariant.progress c.in-Err.ensures.piece c.in-Err.ensures.cause)
 
 pub returns-then-n-lt-PIECE : goal.returns-then-n-lt-PIECE
 returns-then-n-lt-PIECE g c =
     let few : c.loop-k.k < 65536 = omega arith in
     let room : length c.list_piece.new.buffer ≡ 65536 = omega (arith, c.list_piece.auto.buffer, c.loop-k.invariant.room) in
-    finished _ _ _ _ _ _ _ _ _ _ _ _ _ _ _ c.loop-k.k c.in-Ok.n c.list_piece.new.buffer c.finish.result few room (omega arith) c.loop-k.invariant.input_later c.loop-k.invariant.out_later c.in-Ok.ensures.cause c.loop-k.invariant.progress c.in-Ok.ensures.piece c.finish.ensures
+    finished _ _ _ _ _ _ _ _ c.loop-k.k c.in-Ok.n c.list_piece.new.buffer c.finish.result few room (omega arith) c.loop-k.invariant.input_later c.loop-k.invariant.out_later c.in-Ok.ensures.cause c.loop-k.invariant.progress c.in-Ok.ensures.piece c.finish.ensures
 
 pub loop-k-preserved : goal.loop-k-preserved
 loop-k-preserved g c =
@@ -24,4 +24,4 @@ loop-k-preserved g c =
     }
 
 pub returns : goal.returns
-returns g c = let last : c.loop-k.k ≡ 65536 = omega arith in let p = rw last at c.loop-k.invariant.progress in probed _ _ _ _ _ _ _ _ _ _ _ c.probe.result c.loop-k.invariant.input_later c.loop-k.invariant.out_later p c.probe.ensures
+returns g c = let last : c.loop-k.k ≡ 65536 = omega arith in let p = rw last at c.loop-k.invariant.progress in probed _ _ _ _ _ _ c.probe.result c.loop-k.invariant.input_later c.loop-k.invariant.out_later p c.probe.ensures

@@ -4,8 +4,8 @@ use Rattle.mrs_query.proofs.stream.list_pieces.Given as goal
 
 abbrev pub invariant-loop-k : goal.invariant-loop-k
 invariant-loop-k g l = record {
-  progress : Progress l.release (g.S.Source.left l.initial.input) (g.S.Source.left l.input) (g.K.Sink.taken l.initial.out) (g.K.Sink.taken l.out) l.k;
-  input_later : g.S.Source.faults l.initial.input ≤ g.S.Source.faults l.input;
-  out_later : g.K.Sink.faults l.initial.out ≤ g.K.Sink.faults l.out;
+  progress : Progress l.release (g.S.Source.reading l.initial.input) (g.S.Source.reading l.input) (g.K.Sink.writing l.initial.out) (g.K.Sink.writing l.out) l.k;
+  input_later : (g.S.Source.reading l.initial.input).faults ≤ (g.S.Source.reading l.input).faults;
+  out_later : (g.K.Sink.writing l.initial.out).faults ≤ (g.K.Sink.writing l.out).faults;
   room : length l.buffer ≡ 65536;
 }
