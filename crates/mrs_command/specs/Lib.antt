@@ -1,3 +1,2 @@
-pub mod Verb
+pub mod Commands
 pub mod Words
-pub mod Asked

@@ -1,13 +1,14 @@
-//! The words of the command line. No call takes memory.
+//! The words of the command line. They give one value for each command, in which what the keys say stands under names of
+//! its own: a needed key is there, and another one has its default. No call takes memory.
 #![tactic(auto)]
 
-mod command;
-mod pairs;
+mod bad_word;
+mod commands;
 mod reading;
-mod request;
+mod settings;
 #[cfg(test)]
 mod tests;
-mod verb;
 
-pub use reading::{BadWord, read_request};
-pub use request::{Release, Request};
+pub use bad_word::BadWord;
+pub use commands::{Release, Request};
+pub use reading::read_request;

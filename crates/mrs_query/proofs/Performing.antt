@@ -1,74 +1,92 @@
--- A run whose document was accepted does what becomes of the command.
-use Rattle.std.proofs.Common.{◌≡◌, ◌≤◌, Ok, Err, inl, inr, ap, arith}
+-- From what became of what is asked for to what the run did.
+use Rattle.std.proofs.Common.{◌≡◌, ◌≤◌, ℕ, List, Ok, Err, inl, inr, ap, subst, arith}
 use Rattle.spec_io.specs.States.{Reading, Writing}
-use Rattle.spec_command.specs.Command.{Request}
-use Rattle.spec_run.specs.Outcome.{End, Done, Ragged, Usage, Document as Refused, Question, ReadFault, WriteFault, Limit, NoMemory, Insns, Input}
-use Rattle.spec_run.specs.Work.{Work, Needs, opened, work_of}
+use Rattle.spec_command.specs.Commands.{Request}
+use Rattle.spec_command.specs.Request.{request}
+use Rattle.spec_run.specs.End.{End, Done, Ragged, Usage, Document as Refused, Question, ReadFault, WriteFault, Limit, NoMemory, Insns, Input, IsUsage}
+use Rattle.spec_run.specs.Work.{Work}
+use Rattle.spec_run.specs.Commands.{Needs, opened, work_of}
 use Rattle.spec_run.specs.Ran.{Ran}
-use Rattle.spec_run.specs.Scene.{Scene}
-use Rattle.spec_run.specs.Answers.{IsUsage, Means, Says, Untouched, CommandDecides, Performs}
-use Rattle.mrs_query.specs.Opened.{Opens}
+use Rattle.spec_run.specs.Scene.{Scene, Kept}
+use Rattle.spec_run.specs.Answers.{Untouched, WorkDecides, Means, Asked, Says, Performs}
+use Rattle.mrs_query.specs.Opened.{Opens, ending}
+use Rattle.mrs_query.specs.Fulfilled.{Fulfils}
 use Rattle.mrs_query.specs.End.{end_of}
 use Rattle.mrs_query.specs.declared.status.Status.{Status}
-use Rattle.mrs_query.specs.declared.status.Status.TheVariants as status
+use Rattle.mrs_query.specs.declared.opening_error.OpeningError.{OpeningError}
+use Rattle.mrs_query.specs.declared.opening_error.OpeningError.TheVariants as error
 use Rattle.mrs_query.specs.declared.status.Which.TheVariants as which
 
--- no work ends as refused words do
-pub never_usage : (input input_after : Reading) (out out_after : Writing) (work : Work) (end : End) → Ran input input_after out out_after work end → IsUsage end → ⊥
-never_usage input input_after out out_after work Done h usage = usage
-never_usage input input_after out out_after work (Ragged rest) h usage = usage
-never_usage input input_after out out_after work (Usage place) h usage = h.meaning
-never_usage input input_after out out_after work (Refused which fault) h usage = usage
-never_usage input input_after out out_after work (Question fault) h usage = usage
-never_usage input input_after out out_after work (ReadFault which) h usage = usage
-never_usage input input_after out out_after work WriteFault h usage = usage
-never_usage input input_after out out_after work (Limit which) h usage = usage
-never_usage input input_after out out_after work NoMemory h usage = usage
+module _ (s : Scene) (asked : Request) where
+  -- ---- what a command ensures of what is asked for
 
--- a document decided, or memory ran out before the command was begun
-pub performs_refusal : (s : Scene) (asked : Request) (end : Status) → Says s asked → Opens (opened asked) s.shelf s.shelf_after (Err end) → s.shelf_after.documents ≡ s.shelf.documents → s.shelf.faults ≤ s.shelf_after.faults → Untouched s → Performs (end_of end) s
-performs_refusal s asked end says opens same later still = record {
-  meaning = means end opens;
-  kept = record { documents = same; shelf = later; input = omega (arith, ap (λ r. r.faults) still.input); out = omega (arith, still.count) };
-}
-  where
-    means : (end : Status) → Opens (opened asked) s.shelf s.shelf_after (Err end) → Means (end_of end) s
-    means status.NoMemory h = record { asked = asked; says = says; shelf = h; reached = inl still }
-    means (status.ReadFault which.Insns) h = record { asked = asked; says = says; cause = h; untouched = still }
-    means (status.Document which.Insns fault) h = record { asked = asked; says = says; cause = h.1; shelf = h.0; untouched = still }
-    means (status.Limit which.Insns) h = record { asked = asked; says = says; cause = h.1; shelf = h.0; untouched = still }
-    means (status.ReadFault which.Input) h = absurd h
-    means (status.Document which.Input fault) h = absurd h
-    means (status.Limit which.Input) h = absurd h
-    means status.Done h = absurd h
-    means (status.Ragged rest) h = absurd h
-    means (status.Usage place) h = absurd h
-    means (status.Question fault) h = absurd h
-    means status.WriteFault h = absurd h
+  -- it is opened, and the command's work ends so
+  pub work_done : (found : Needs asked) (status : Status) → Opens (opened asked) s.shelf s.shelf_after (Ok found) → s.shelf_after.documents ≡ s.shelf.documents
+      → Ran s.input s.input_after s.out s.out_after (work_of asked found) (end_of status) → Fulfils asked s (Ok status)
+  work_done found status opens same ran = (
+    record { found = found; gives = opens.0; shelf = opens.1; ran = ran },
+    record { documents = same; shelf = omega (arith, opens.1); input = ran.input_count; out = ran.out_count },
+  )
 
-module _ (s : Scene) (asked : Request) (found : Needs asked) (says : Says s asked) (opens : Opens (opened asked) s.shelf s.shelf_after (Ok found)) where
-  abbrev Ends : End → Type 0
-  Ends end = Ran s.input s.input_after s.out s.out_after (work_of asked found) end
+  -- it is not opened
+  pub not_opened : (e : OpeningError) → Opens (opened asked) s.shelf s.shelf_after (Err e) → s.shelf_after.documents ≡ s.shelf.documents → s.shelf.faults ≤ s.shelf_after.faults → Untouched s → Fulfils asked s (Err e)
+  not_opened e opens same later still = (opens, still, record { documents = same; shelf = later; input = omega (arith, ap (λ r. r.faults) still.input); out = omega (arith, still.count) })
 
-  decides : (end : End) → Ends end → CommandDecides s end
-  decides end h = record { asked = asked; found = found; says = says; accepted = opens.1; shelf = opens.0; ran = h }
+  -- ---- what a status says then
 
-  means : (end : End) → Ends end → Means end s
-  means Done h = decides Done h
-  means (Ragged rest) h = decides (Ragged rest) h
-  means (Question fault) h = decides (Question fault) h
-  means (Limit Input) h = decides (Limit Input) h
-  means (Limit Insns) h = absurd h.meaning
-  means (ReadFault Input) h = decides (ReadFault Input) h
-  means (ReadFault Insns) h = absurd h.meaning
-  means WriteFault h = decides WriteFault h
-  means NoMemory h = record { asked = asked; says = says; shelf = opens.0; reached = inr (decides NoMemory h) }
-  means (Usage place) h = absurd h.meaning
-  means (Refused which fault) h = absurd h.meaning
+  -- the command's work decided
+  by_work : (end : End) → WorkDecides s asked end → Means s asked end
+  by_work Done h = h
+  by_work (Ragged rest) h = h
+  by_work (Question fault) h = h
+  by_work (Limit Input) h = h
+  by_work (Limit Insns) h = absurd h.ran.meaning
+  by_work (ReadFault Input) h = h
+  by_work (ReadFault Insns) h = absurd h.ran.meaning
+  by_work WriteFault h = h
+  by_work NoMemory h = record { shelf = h.shelf; reached = inr h }
+  by_work (Usage place) h = absurd h.ran.meaning
+  by_work (Refused which fault) h = absurd h.ran.meaning
 
-  -- the document was fetched and accepted
-  pub performs_command : (end : End) → s.shelf_after.documents ≡ s.shelf.documents → Ends end → Performs end s
-  performs_command end same h = record {
-    meaning = means end h;
-    kept = record { documents = same; shelf = omega (arith, opens.0); input = h.input_count; out = h.out_count };
-  }
+  -- nothing was opened
+  by_opening : (e : OpeningError) → Opens (opened asked) s.shelf s.shelf_after (Err e) → Untouched s → Means s asked (ending e)
+  by_opening (error.NotRead which.Insns) opens still = record { cause = opens; untouched = still }
+  by_opening (error.NotRead which.Input) opens still = absurd opens.0
+  by_opening (error.TooLong which.Insns) opens still = record { cause = opens; untouched = still }
+  by_opening (error.TooLong which.Input) opens still = absurd opens.0
+  by_opening (error.Refused which fault) opens still = record { cause = opens; untouched = still }
+  by_opening error.NoMemory opens still = record { shelf = opens; reached = inl still }
+
+module _ (words : List (List ℕ)) (s : Scene) (asked : Request) (says : request words ≡ Ok asked) where
+  -- a status says this of words that ask for something
+  asked_says : (end : End) → Means s asked end → Says words s end
+  asked_says Done h = record { asked = asked; says = says; means = h }
+  asked_says (Ragged rest) h = record { asked = asked; says = says; means = h }
+  asked_says (Usage place) h = absurd h
+  asked_says (Refused which fault) h = record { asked = asked; says = says; means = h }
+  asked_says (Question fault) h = record { asked = asked; says = says; means = h }
+  asked_says (ReadFault which) h = record { asked = asked; says = says; means = h }
+  asked_says WriteFault h = record { asked = asked; says = says; means = h }
+  asked_says (Limit which) h = record { asked = asked; says = says; means = h }
+  asked_says NoMemory h = record { asked = asked; says = says; means = h }
+
+  pub performs_work : (status : Status) → Fulfils asked s (Ok status) → Performs words s (end_of status)
+  performs_work status h = record { says = asked_says (end_of status) (by_work s asked (end_of status) h.0); kept = h.1 }
+
+  pub performs_opening : (e : OpeningError) (status : Status) → end_of status ≡ ending e → Fulfils asked s (Err e) → Performs words s (end_of status)
+  performs_opening e status is h = record { says = rw is (asked_says (ending e) (by_opening s asked e h.0 h.1)); kept = h.2 }
+
+  -- it does not end as refused words do
+  pub never_usage : (status : Status) → Fulfils asked s (Ok status) → IsUsage (end_of status) → ⊥
+  never_usage status h usage = usage_means (end_of status) (by_work s asked (end_of status) h.0) usage
+    where
+      usage_means : (end : End) → Means s asked end → IsUsage end → ⊥
+      usage_means Done m usage = usage
+      usage_means (Ragged rest) m usage = usage
+      usage_means (Usage place) m usage = m
+      usage_means (Refused which fault) m usage = usage
+      usage_means (Question fault) m usage = usage
+      usage_means (ReadFault which) m usage = usage
+      usage_means WriteFault m usage = usage
+      usage_means (Limit which) m usage = usage
+      usage_means NoMemory m usage = usage

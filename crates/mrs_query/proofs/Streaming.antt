@@ -9,17 +9,17 @@ use Rattle.spec_io.specs.States.{Reading, Writing}
 use Rattle.spec_instructions.specs.Tree.{Own}
 use Rattle.spec_lines.specs.Listing.{words_in, rest_in, listing, rest_line, stream_lines}
 use Rattle.spec_lines.proofs.Streams.{IsWhole, listing-words, words_in-append, rest_in-append, length-words_in}
-use Rattle.spec_run.specs.Outcome as run
-use Rattle.spec_run.specs.Outcome.{Outcome, stream_outcome, stream_limit, stream_end}
-use Rattle.spec_run.specs.Work.{Over, Reads, list_work}
+use Rattle.spec_run.specs.End as run
+use Rattle.spec_run.specs.Work.{Outcome, Over, Reads}
+use Rattle.spec_run.specs.Commands.{stream_outcome, stream_limit, stream_end, list_work}
 use Rattle.spec_run.specs.Scene.{TookPrefix, TookShort, ReadsAtMost}
 use Rattle.spec_run.specs.Ran.{Ran, Broke}
 use Rattle.spec_run.proofs.Fits.{outcome_whole, outcome_long, list_front}
 use Rattle.mrs_io.proofs.Causes.{Rose-earlier}
 use Rattle.mrs_query.specs.Pieces.{PieceListed, PieceEnds, PieceCause, Finished, Probed, rest_text, status_of}
 use Rattle.mrs_query.specs.End.{end_of}
-use Rattle.mrs_query.specs.declared.stream.Stop.{Stop}
-use Rattle.mrs_query.specs.declared.stream.Stop.TheVariants as stop
+use Rattle.mrs_query.specs.declared.commands.list.Stop.{Stop}
+use Rattle.mrs_query.specs.declared.commands.list.Stop.TheVariants as stop
 use Rattle.mrs_query.specs.declared.status.Status.{Status}
 use Rattle.mrs_query.specs.declared.status.Status.TheVariants as status
 use Rattle.mrs_query.specs.declared.status.Which.TheVariants as which

@@ -1,43 +1,42 @@
--- What the document gives: its paths, or the status that it decides.
-use Rattle.std.specs.Prelude.{◌≡◌, ◌⊎◌, ℕ, List, Option, Some, None, Result, Ok, Err, IfSome, IsSomeAnd, ⊤}
-use Rattle.spec_io.specs.Faults.{Rose}
+-- What an opening of the code answers: what was opened, or why nothing is. Want of memory is the one free answer.
+use Rattle.std.specs.Prelude.{◌≡◌, ℕ, List, Option, Some, None, Result, Ok, Err, ⊤}
 use Rattle.spec_io.specs.Documents.{Document}
 use Rattle.spec_io.specs.States.{Shelving}
-use Rattle.spec_instructions.specs.Tree.{Own}
-use Rattle.spec_run.specs.Outcome as run
-use Rattle.mrs_query.specs.declared.status.Status.{Status}
-use Rattle.mrs_query.specs.declared.status.Status.TheVariants as status
-use Rattle.mrs_query.specs.declared.status.Which.TheVariants as which
 use Rattle.serde_json.specs.Data.{Data}
 use Rattle.serde_json.specs.View.{view}
 use Rattle.serde_json.specs.declared.value.Value.{Value}
-use Rattle.mrs_query.specs.End.{end_of, which_of, fault_of}
+use Rattle.spec_run.specs.End as run
+use Rattle.spec_run.specs.Opening as opening
+use Rattle.spec_run.specs.Opens.{ShelfStill, Gives, Fails}
+use Rattle.mrs_query.specs.declared.opening.Unread.{Unread}
+use Rattle.mrs_query.specs.declared.opening.Unread.TheVariants as unread
+use Rattle.mrs_query.specs.declared.opening_error.OpeningError.{OpeningError}
+use Rattle.mrs_query.specs.declared.opening_error.OpeningError.TheVariants as error
+use Rattle.mrs_query.specs.End.{which_of, fault_of}
 
--- the JSON value that a text is read as, unless memory ran out
-abbrev pub Parsed : Option Data → Result Value Status → Type 0
+-- the JSON value that a text is read as
+abbrev pub Parsed : Option Data → Result Value Unread → Type 0
 Parsed value (Ok v) = value ≡ Some (view v)
-Parsed value (Err status.NoMemory) = ⊤
-Parsed value (Err (status.Document which fault)) = (value ≡ None) × (which_of which ≡ run.Insns) × (fault_of fault ≡ run.Json)
-Parsed value (Err end) = ⊥
+Parsed value (Err (unread.Refused fault)) = (value ≡ None) × (fault_of fault ≡ run.Json)
+Parsed value (Err unread.NoMemory) = ⊤
 
--- the paths that a JSON value gives, or the status that it decides, unless memory ran out
-abbrev pub Read : List ℕ → Option Data → Result (List (List Own)) Status → Type 0
-Read isa value (Ok paths) = run.of_value isa value ≡ Ok paths
-Read isa value (Err status.NoMemory) = ⊤
-Read isa value (Err end) = run.of_value isa value ≡ Err (end_of end)
+-- the set that a JSON value gives
+abbrev pub Read : List ℕ → Option Data → Result opening.Opened Unread → Type 0
+Read isa value (Ok opened) = opening.of_value isa value ≡ Ok opened
+Read isa value (Err (unread.Refused fault)) = opening.of_value isa value ≡ Err (opening.Refused run.Insns (fault_of fault))
+Read isa value (Err unread.NoMemory) = ⊤
 
--- what is made of the documents, where the shelf tells them; the count of faults stays, unless the shelf failed
-module _ {A : Type 0} (given : List Document → Result A run.End) (shelf shelf_after : Shelving) where
-  abbrev pub Still : Type 0
-  Still = shelf_after.faults ≡ shelf.faults
+-- what is made of the documents
+abbrev pub Opens : {A : Type 0} → (List Document → Result A opening.OpeningError) → Shelving → Shelving → Result A OpeningError → Type 0
+Opens given shelf shelf_after (Ok found) = Gives given shelf shelf_after (Ok found) × ShelfStill shelf shelf_after
+Opens given shelf shelf_after (Err (error.NotRead which)) = Fails given shelf shelf_after (opening.NotRead (which_of which))
+Opens given shelf shelf_after (Err (error.TooLong which)) = Fails given shelf shelf_after (opening.TooLong (which_of which))
+Opens given shelf shelf_after (Err (error.Refused which fault)) = Fails given shelf shelf_after (opening.Refused (which_of which) (fault_of fault))
+Opens given shelf shelf_after (Err error.NoMemory) = ShelfStill shelf shelf_after
 
-  abbrev pub Gives : Result A run.End → Type 0
-  Gives end = IfSome shelf.documents (λ docs. given docs ≡ end)
-
-  abbrev pub Opens : Result A Status → Type 0
-  Opens (Ok found) = Still × Gives (Ok found)
-  Opens (Err status.NoMemory) = Still
-  Opens (Err (status.ReadFault which.Insns)) = Rose shelf.faults shelf_after.faults ⊎ IsSomeAnd shelf.documents (λ docs. given docs ≡ Err (run.ReadFault run.Insns))
-  Opens (Err (status.Document which.Insns fault)) = Still × Gives (Err (run.Document run.Insns (fault_of fault)))
-  Opens (Err (status.Limit which.Insns)) = Still × Gives (Err (run.Limit run.Insns))
-  Opens (Err end) = ⊥
+-- how the run ends where nothing is opened
+abbrev pub ending : OpeningError → run.End
+ending (error.NotRead which) = opening.end_by (opening.NotRead (which_of which))
+ending (error.TooLong which) = opening.end_by (opening.TooLong (which_of which))
+ending (error.Refused which fault) = opening.end_by (opening.Refused (which_of which) (fault_of fault))
+ending error.NoMemory = run.NoMemory

@@ -6,8 +6,8 @@ use Rattle.spec_io.specs.States.{Reading, Writing}
 use Rattle.spec_instructions.specs.Tree.{Own}
 use Rattle.spec_lines.specs.Listing.{words_in, rest_in, listing, rest_line}
 use Rattle.mrs_io.specs.Pieces.{AppendsPart}
-use Rattle.mrs_query.specs.declared.stream.Stop.{Stop}
-use Rattle.mrs_query.specs.declared.stream.Stop.TheVariants as stop
+use Rattle.mrs_query.specs.declared.commands.list.Stop.{Stop}
+use Rattle.mrs_query.specs.declared.commands.list.Stop.TheVariants as stop
 use Rattle.mrs_query.specs.declared.status.Status.{Status}
 use Rattle.mrs_query.specs.declared.status.Status.TheVariants as status
 use Rattle.mrs_query.specs.declared.status.Which.TheVariants as which

@@ -1,7 +1,7 @@
 //! The text of a status, for the sink of messages.
 ghost use Rattle.std.specs.Prelude.{◌≡◌, ◌≤◌, [], ◌∷◌, ◌++◌, map, codes};
-ghost use Rattle.spec_run.specs.Outcome as run;
-ghost use Rattle.spec_run.specs.Outcome.{message, why_text};
+ghost use Rattle.spec_run.specs.End as run;
+ghost use Rattle.spec_run.specs.End.{message, why_text};
 ghost use Rattle.spec_run.specs.Scene.{TookText};
 ghost use Rattle.mrs_schema.specs.Faults as schema;
 ghost use Rattle.mrs_query.specs.End.{end_of, which_of, question_of};

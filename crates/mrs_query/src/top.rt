@@ -1,16 +1,13 @@
 //! The top call.
 ghost use Rattle.std.specs.Prelude.{◌≡◌, map, string_bytes, []};
-ghost use Rattle.spec_run.specs.Outcome.{message};
-ghost use Rattle.spec_run.specs.Answers.{Performs, Answers, IsEarly, IsUsage};
+ghost use Rattle.spec_run.specs.End.{message, IsEarly, IsUsage};
+ghost use Rattle.spec_run.specs.Answers.{Performs, Answers};
 ghost use Rattle.mrs_query.specs.End.{end_of};
 
 use crate::Status;
-use crate::document::open_release;
-use crate::leaf::show_leaf;
+use crate::commands::fulfil;
 use crate::message::tell;
-use crate::release::Release;
-use crate::stream::list_stream;
-use mrs_command::{Request, read_request};
+use mrs_command::read_request;
 use mrs_io::{Shelf, Sink, Source};
 use std::alloc::Global;
 use std::thread::Threads;
@@ -24,15 +21,14 @@ fn perform<V: Shelf, S: Source, K: Sink>(
     input: &mut S,
     out: &mut K,
 ) -> Status
-    ensures performs { Performs (end_of result) (record {
-      words = map string_bytes words.now;
+    ensures performs { Performs (map string_bytes words.now) (record {
       shelf = V.shelving shelf.old;
       shelf_after = V.shelving shelf.new;
       input = S.reading input.old;
       input_after = S.reading input.new;
       out = K.writing out.old;
       out_after = K.writing out.new;
-    }) }
+    }) (end_of result) }
     ensures early { IsEarly (end_of result) → (input.new ≡ input.old) × (out.new ≡ out.old) }
     ensures misused { IsUsage (end_of result) → shelf.new ≡ shelf.old }
 {
@@ -40,15 +36,9 @@ fn perform<V: Shelf, S: Source, K: Sink>(
         Ok(asked) => asked,
         Err(bad) => return Status::Usage { place: bad.place },
     };
-    match asked {
-        Request::List { release } => match open_release(alloc, shelf, release) {
-            Ok(release) => list_stream(alloc, &release, input, out),
-            Err(status) => status,
-        },
-        Request::Leaf { release, label } => match open_release(alloc, shelf, release) {
-            Ok(release) => show_leaf(alloc, &release, label, out),
-            Err(status) => status,
-        },
+    match fulfil(alloc, asked, shelf, input, out) {
+        Ok(status) => status,
+        Err(error) => error.status(),
     }
 }
 
@@ -67,17 +57,14 @@ pub fn run<R: Threads + Sync, V: Shelf, S: Source, K: Sink, E: Sink>(
     out: &mut K,
     err: &mut E,
 ) -> Status
-    ensures answers { Answers (end_of result) (record {
-      words = map string_bytes words.now;
+    ensures answers { Answers (map string_bytes words.now) (record {
       shelf = V.shelving shelf.old;
       shelf_after = V.shelving shelf.new;
       input = S.reading input.old;
       input_after = S.reading input.new;
       out = K.writing out.old;
       out_after = K.writing out.new;
-    })
-        (E.writing err.old)
-        (E.writing err.new) }
+    }) (E.writing err.old) (E.writing err.new) (end_of result) }
     // Before the stream nothing is read from it and nothing goes out; refused words do not touch the shelf.
     ensures early { IsEarly (end_of result) → (input.new ≡ input.old) × (out.new ≡ out.old) }
     ensures misused { IsUsage (end_of result) → shelf.new ≡ shelf.old }

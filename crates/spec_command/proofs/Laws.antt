@@ -2,8 +2,7 @@
 use Rattle.std.proofs.Common.{◌≡◌, ℕ, zero, suc, ◌+◌, ◌<◌, ◌≤◌, Bool, true, false, cond, List, length, Some, refl, subst, inl, inr, arith}
 use Rattle.std.proofs.lemmas.Bool.{cases_lt}
 use Rattle.std.specs.List.{find, range_with_len}
-use Rattle.spec_command.specs.Verb.{Verb}
-use Rattle.spec_command.specs.Command.{is_bad_at, first_bad}
+use Rattle.spec_command.specs.Request.{is_bad_at, first_bad}
 
 -- the first place at which a test passes, from `start` on
 pub record IsFirst (test : ℕ → Bool) (start end place : ℕ) : Type 0 where
@@ -34,5 +33,5 @@ found_is test start (suc n) place h = go (test start) refl h (found_is test (sta
     go false e h later = first_later test start n place e (later h)
 
 -- the first bad word behind a command is bad, and each word before it is good
-pub first_bad_is : (verb : Verb) (words : List (List ℕ)) (place : ℕ) → first_bad verb words ≡ Some place → IsFirst (is_bad_at verb words) 0 (length words) place
-first_bad_is verb words place h = let e : 0 + length words ≡ length words = omega arith in subst (λ end. IsFirst (is_bad_at verb words) 0 end place) e (found_is (is_bad_at verb words) 0 (length words) place h)
+pub first_bad_is : (keys words : List (List ℕ)) (place : ℕ) → first_bad keys words ≡ Some place → IsFirst (is_bad_at keys words) 0 (length words) place
+first_bad_is keys words place h = let e : 0 + length words ≡ length words = omega arith in subst (λ end. IsFirst (is_bad_at keys words) 0 end place) e (found_is (is_bad_at keys words) 0 (length words) place h)

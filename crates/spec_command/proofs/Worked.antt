@@ -1,7 +1,8 @@
 -- Worked values: request lines.
 use Rattle.std.specs.Prelude.{◌≡◌, [], ◌∷◌, Some, None, Ok, Err, codes, refl}
-use Rattle.spec_command.specs.Verb.{ListWords}
-use Rattle.spec_command.specs.Command.{request, value_of, AskList, AskLeaf}
+use Rattle.spec_command.specs.Setting.{value_in}
+use Rattle.spec_command.specs.Commands.{AskList, AskLeaf, leaf_command}
+use Rattle.spec_command.specs.Request.{request}
 
 no_word : request [] ≡ Err 0
 no_word = refl
@@ -47,9 +48,13 @@ set_alone = refl
 bad_before_missing : request (codes "list" ∷ codes "isa=X" ∷ codes "label=x" ∷ []) ≡ Err 2
 bad_before_missing = refl
 
--- the first word of a key gives its value
-first_value : value_of (codes "insns") (record { verb = ListWords; pairs = (codes "isa", codes "A") ∷ (codes "insns", codes "i") ∷ (codes "insns", codes "j") ∷ [] }) ≡ Some (codes "i")
+-- the keys of a command are those that its request is made of
+leaf_keys : leaf_command.asks.keys ≡ codes "insns" ∷ codes "isa" ∷ codes "label" ∷ []
+leaf_keys = refl
+
+-- the first setting of a key gives its value
+first_value : value_in (codes "insns") ((codes "isa", codes "A") ∷ (codes "insns", codes "i") ∷ (codes "insns", codes "j") ∷ []) ≡ Some (codes "i")
 first_value = refl
 
-no_value : value_of (codes "max") (record { verb = ListWords; pairs = (codes "insns", codes "i") ∷ [] }) ≡ None
+no_value : value_in (codes "max") ((codes "insns", codes "i") ∷ []) ≡ None
 no_value = refl

@@ -1,5 +1,5 @@
 -- What the statuses say, put together: an answer is the outcome's, and a run without faults gives the outcome.
-use Rattle.std.proofs.Common.{◌≡◌, ℕ, ◌≤◌, List, [], ◌++◌, length, take, drop, arith, Option, Some, None, IfSome, IsSomeAnd, Ok, Err, inl, inr, refl, sym, ap, ◌∙◌, subst, append_assoc, length-append, length-take}
+use Rattle.std.proofs.Common.{◌≡◌, ◌⊎◌, ℕ, ◌≤◌, List, [], ◌++◌, length, take, drop, arith, Option, Some, None, IfSome, IsSomeAnd, Ok, Err, inl, inr, refl, sym, ap, ◌∙◌, subst, append_assoc, length-append, length-take}
 use Rattle.std.specs.Io.KnownBytes.{Consumes, Keeps}
 use Rattle.std.proofs.KnownBytes.{Appends-nil, Appends-kept}
 use Rattle.std.proofs.Math.Seq.{take-append_seam}
@@ -7,14 +7,19 @@ use Rattle.std.proofs.lemmas.List.{take-append-drop}
 use Rattle.spec_io.specs.Faults.{Rose}
 use Rattle.spec_io.specs.Documents.{Document as Named}
 use Rattle.spec_io.specs.States.{Reading, Writing}
-use Rattle.spec_command.specs.Command.{Request, request}
-use Rattle.spec_run.specs.Outcome.{End, Done, Ragged, Usage, Document, Question, ReadFault, WriteFault, Limit, NoMemory, Insns, Input, Outcome}
-use Rattle.spec_run.specs.Work.{opened, Work, Once, Reads, Over, outcome_of, work_of, after_opening, of_request, outcome}
+use Rattle.spec_command.specs.Commands.{Request}
+use Rattle.spec_command.specs.Request.{request}
+use Rattle.spec_run.specs.End.{End, Done, Ragged, Usage, Document, Question, ReadFault, WriteFault, Limit, NoMemory, Insns, Input, IsEarly}
+use Rattle.spec_run.specs.Opening.{OpeningError, NotRead, TooLong, Refused, end_by}
+use Rattle.spec_run.specs.Work.{Outcome, Work, Once, Reads, Over, outcome_of}
+use Rattle.spec_run.specs.Commands.{opened, work_of}
+use Rattle.spec_run.specs.Outcome.{after_opening, of_request, outcome}
 use Rattle.spec_run.specs.Scene.{Scene, Took, TookPrefix, TookShort}
 use Rattle.spec_run.specs.Ran.{Told, Whole, Broke, SourceBroke, Ran}
 use Rattle.spec_run.specs.Fits.{IsFit, IsProgress}
-use Rattle.spec_run.specs.Answers.{IsEarly, Misused, DocumentDecides, CommandDecides, Unfetched, OutOfMemory}
-use Rattle.spec_run.specs.Exact.{GivesOutcome, AnswersAreExact, RunsComplete, FaultsComeLate, PrefixesGoOut}
+use Rattle.spec_run.specs.Opens.{Gives, Fails}
+use Rattle.spec_run.specs.Answers.{Untouched, WorkDecides, OutOfMemory, Means, Misused, Asked, Says}
+use Rattle.spec_run.specs.Exact.{GivesOutcome, IsAnswer, IsLate, IsCut, AnswersAreExact, RunsComplete, FaultsComeLate, PrefixesGoOut}
 use Rattle.spec_run.proofs.Fits.{works_fit}
 
 told : {A : Type 0} (o : Option A) (x : A) (P : A → Type 0) → o ≡ Some x → IfSome o P → P x
@@ -90,104 +95,140 @@ source_rose input input_after out out_after (Reads over) h = h.cause
 
 -- ---- a run
 
--- the outcome where the document decides
-refused : (s : Scene) (docs : List Named) (bytes : List ℕ) (end : End) (asked : Request) → request s.words ≡ Ok asked → opened asked docs ≡ Err end → outcome s.words docs bytes ≡ record { end = end; out = [] }
-refused s docs bytes end asked says cause = ap (λ r. of_request r docs bytes) says ∙ ap (λ r. after_opening asked r bytes) cause
+-- the words are refused, or they ask for something
+said : (words : List (List ℕ)) (s : Scene) (end : End) → Says words s end → ((place : ℕ) × (end ≡ Usage place) × Misused words s place) ⊎ Asked words s end
+said words s (Usage place) h = inl (place, refl, h)
+said words s Done h = inr h
+said words s (Ragged rest) h = inr h
+said words s (Document which fault) h = inr h
+said words s (Question fault) h = inr h
+said words s (ReadFault which) h = inr h
+said words s WriteFault h = inr h
+said words s (Limit which) h = inr h
+said words s NoMemory h = inr h
 
--- nothing went out
-nothing : (s : Scene) (docs : List Named) (bytes : List ℕ) (end : End) → outcome s.words docs bytes ≡ record { end = end; out = [] } → Keeps s.out.taken s.out_after.taken → GivesOutcome s docs bytes end
-nothing s docs bytes end e kept = subst (λ o. (o.end ≡ end) × Took s.out s.out_after o.out) (sym e) (refl, Appends-kept s.out.taken s.out.taken s.out_after.taken [] (Appends-nil s.out.taken) kept)
+module _ (words : List (List ℕ)) (s : Scene) (docs : List Named) (bytes : List ℕ) where
+  -- nothing went out
+  nothing : (end : End) → outcome words docs bytes ≡ record { end = end; out = [] } → Keeps s.out.taken s.out_after.taken → GivesOutcome words s docs bytes end
+  nothing end e kept = subst (λ o. (o.end ≡ end) × Took s.out s.out_after o.out) (sym e) (refl, Appends-kept s.out.taken s.out.taken s.out_after.taken [] (Appends-nil s.out.taken) kept)
 
-by_document : (s : Scene) (docs : List Named) (bytes : List ℕ) (end : End) → s.shelf.documents ≡ Some docs → DocumentDecides s end → GivesOutcome s docs bytes end
-by_document s docs bytes end d h = nothing s docs bytes end (refused s docs bytes end h.asked h.says (told s.shelf.documents docs _ d h.cause)) h.untouched.out
+  misused : (end : End) (place : ℕ) → end ≡ Usage place → Misused words s place → GivesOutcome words s docs bytes end
+  misused end place is h = subst (GivesOutcome words s docs bytes) (sym is) (nothing (Usage place) (ap (λ r. of_request r docs bytes) h.cause) h.untouched.out)
 
-misused : (s : Scene) (docs : List Named) (bytes : List ℕ) (place : ℕ) → Misused s place → GivesOutcome s docs bytes (Usage place)
-misused s docs bytes place h = nothing s docs bytes (Usage place) (ap (λ r. of_request r docs bytes) h.cause) h.untouched.out
+  -- ---- the words ask for something
 
--- the outcome where the document is accepted
-accepted : (s : Scene) (docs : List Named) (bytes : List ℕ) (end : End) → s.shelf.documents ≡ Some docs → (h : CommandDecides s end) → outcome s.words docs bytes ≡ outcome_of (work_of h.asked h.found) bytes
-accepted s docs bytes end d h = ap (λ r. of_request r docs bytes) h.says ∙ ap (λ r. after_opening h.asked r bytes) (told s.shelf.documents docs _ d h.accepted)
+  module _ (d : s.shelf.documents ≡ Some docs) (l : s.input.left ≡ Some bytes) (asked : Request) (says : request words ≡ Ok asked) where
+    -- the outcome where it is not opened
+    refused : (error : OpeningError) → opened asked docs ≡ Err error → outcome words docs bytes ≡ record { end = end_by error; out = [] }
+    refused error cause = ap (λ r. of_request r docs bytes) says ∙ ap (λ r. after_opening asked r bytes) cause
 
-by_command : (s : Scene) (docs : List Named) (bytes : List ℕ) (end : End) → s.shelf.documents ≡ Some docs → s.input.left ≡ Some bytes → (h : CommandDecides s end)
-    → Whole s.input s.input_after s.out s.out_after (work_of h.asked h.found) end → GivesOutcome s docs bytes end
-by_command s docs bytes end d l h whole =
-    let P : Outcome → Type 0 = λ o. (o.end ≡ end) × Took s.out s.out_after o.out in
-    subst P (sym (accepted s docs bytes end d h)) (outcome_told s.input s.input_after s.out s.out_after bytes l (work_of h.asked h.found) P whole)
+    by_opening : (error : OpeningError) → Gives (opened asked) s.shelf s.shelf_after (Err error) → Untouched s → GivesOutcome words s docs bytes (end_by error)
+    by_opening error opens still = nothing (end_by error) (refused error (told s.shelf.documents docs _ d opens)) still.out
+
+    -- a document that is not there, where the shelf's count did not rise
+    unfetched : Fails (opened asked) s.shelf s.shelf_after (NotRead Insns) → ¬ Rose s.shelf.faults s.shelf_after.faults → (outcome words docs bytes).end ≡ ReadFault Insns
+    unfetched cause still = elim cause.1 [
+      | inl rose ↦ absurd (still rose)
+      | inr none ↦ ap (λ o. o.end) (refused (NotRead Insns) (told_and s.shelf.documents docs (λ docs. opened asked docs ≡ Err (NotRead Insns)) d none))
+    ]
+
+    -- the outcome where it is opened
+    accepted : (end : End) (h : WorkDecides s asked end) → outcome words docs bytes ≡ outcome_of (work_of asked h.found) bytes
+    accepted end h = ap (λ r. of_request r docs bytes) says ∙ ap (λ r. after_opening asked r bytes) (told s.shelf.documents docs _ d h.gives)
+
+    -- what holds of the work's outcome, where it was told, holds of the run's
+    by_work : (end : End) (P : Outcome → Type 0) (h : WorkDecides s asked end) → Told s.input s.input_after s.out s.out_after (work_of asked h.found) P → P (outcome words docs bytes)
+    by_work end P h holds = subst P (sym (accepted end h)) (outcome_told s.input s.input_after s.out s.out_after bytes l (work_of asked h.found) P holds)
+
+    whole : (end : End) (h : WorkDecides s asked end) → Whole s.input s.input_after s.out s.out_after (work_of asked h.found) end → GivesOutcome words s docs bytes end
+    whole end h went = by_work end (λ o. (o.end ≡ end) × Took s.out s.out_after o.out) h went
+
+    exact : (end : End) → Means s asked end → IsAnswer end → GivesOutcome words s docs bytes end
+    exact Done h a = whole Done h h.ran.meaning.0
+    exact (Ragged rest) h a = whole (Ragged rest) h h.ran.meaning.0
+    exact (Usage place) h a = absurd h
+    exact (Document which fault) h a = by_opening (Refused which fault) h.cause.1 h.untouched
+    exact (Question fault) h a = whole (Question fault) h h.ran.meaning
+    exact (ReadFault which) h a = absurd a
+    exact WriteFault h a = absurd a
+    exact (Limit Insns) h a = by_opening (TooLong Insns) h.cause.1 h.untouched
+    exact (Limit Input) h a = whole (Limit Input) h h.ran.meaning
+    exact NoMemory h a = absurd a
+
+    complete : (end : End) → Means s asked end → ¬ Rose s.shelf.faults s.shelf_after.faults → ¬ Rose s.input.faults s.input_after.faults → ¬ Rose s.out.faults s.out_after.faults → ((outcome words docs bytes).end ≡ end) ⊎ (end ≡ NoMemory)
+    complete NoMemory h shelf input out = inr refl
+    complete (ReadFault Insns) h shelf input out = inl (unfetched h.cause shelf)
+    complete (ReadFault Input) h shelf input out = absurd (input (source_rose s.input s.input_after s.out s.out_after (work_of asked h.found) h.ran.meaning))
+    complete WriteFault h shelf input out = absurd (out h.ran.meaning.0)
+    complete Done h shelf input out = inl (exact Done h tt).0
+    complete (Ragged rest) h shelf input out = inl (exact (Ragged rest) h tt).0
+    complete (Usage place) h shelf input out = absurd h
+    complete (Document which fault) h shelf input out = inl (exact (Document which fault) h tt).0
+    complete (Question fault) h shelf input out = inl (exact (Question fault) h tt).0
+    complete (Limit which) h shelf input out = inl (exact (Limit which) h tt).0
+
+    late : (end : End) → Means s asked end → IsLate end → IsEarly (outcome words docs bytes).end → ⊥
+    late (ReadFault Input) h is early =
+        late_read s.input s.input_after s.out s.out_after bytes l (work_of asked h.found) (works_fit asked h.found) h.ran.meaning (subst (λ o. IsEarly o.end) (accepted (ReadFault Input) h) early)
+    late WriteFault h is early =
+        let work : Work = work_of asked h.found in
+        let short = outcome_told s.input s.input_after s.out s.out_after bytes l work (λ o. TookShort s.out s.out_after o.out) h.ran.meaning.1 in
+        late_write s.input s.input_after s.out s.out_after bytes l work (works_fit asked h.found) short (subst (λ o. IsEarly o.end) (accepted WriteFault h) early)
+    late (ReadFault Insns) h is early = is
+    late Done h is early = is
+    late (Ragged rest) h is early = is
+    late (Usage place) h is early = is
+    late (Document which fault) h is early = is
+    late (Question fault) h is early = is
+    late (Limit which) h is early = is
+    late NoMemory h is early = is
+
+    -- ---- a prefix went out
+
+    abbrev Prefix : Outcome → Type 0
+    Prefix o = TookPrefix s.out s.out_after o.out
+
+    cut_short : OutOfMemory s asked → Prefix (outcome words docs bytes)
+    cut_short h = elim h.reached [
+      | inl untouched ↦ (0, omega arith, Appends-kept s.out.taken s.out.taken s.out_after.taken [] (Appends-nil s.out.taken) untouched.out)
+      | inr c ↦ by_work NoMemory Prefix c c.ran.meaning
+    ]
+
+    cut : (end : End) → Means s asked end → IsCut end → Prefix (outcome words docs bytes)
+    cut (ReadFault Input) h is =
+        subst Prefix (sym (accepted (ReadFault Input) h)) (source_cut s.input s.input_after s.out s.out_after bytes l (work_of asked h.found) (works_fit asked h.found) h.ran.meaning)
+    cut WriteFault h is = short_is_prefix s.input s.input_after s.out s.out_after bytes l _ (by_work WriteFault (λ o. TookShort s.out s.out_after o.out) h h.ran.meaning.1)
+    cut NoMemory h is = cut_short h
+    cut (ReadFault Insns) h is = absurd is
+    cut Done h is = absurd is
+    cut (Ragged rest) h is = absurd is
+    cut (Usage place) h is = absurd is
+    cut (Document which fault) h is = absurd is
+    cut (Question fault) h is = absurd is
+    cut (Limit which) h is = absurd is
+
+-- ---- the laws
 
 pub answers_are_exact : AnswersAreExact
-answers_are_exact s docs bytes Done d l h a = by_command s docs bytes Done d l h h.ran.meaning.0
-answers_are_exact s docs bytes (Ragged rest) d l h a = by_command s docs bytes (Ragged rest) d l h h.ran.meaning.0
-answers_are_exact s docs bytes (Usage place) d l h a = misused s docs bytes place h
-answers_are_exact s docs bytes (Document Insns fault) d l h a = by_document s docs bytes (Document Insns fault) d h
-answers_are_exact s docs bytes (Document Input fault) d l h a = absurd h
-answers_are_exact s docs bytes (Question fault) d l h a = by_command s docs bytes (Question fault) d l h h.ran.meaning
-answers_are_exact s docs bytes (ReadFault which) d l h a = absurd a
-answers_are_exact s docs bytes WriteFault d l h a = absurd a
-answers_are_exact s docs bytes (Limit Insns) d l h a = by_document s docs bytes (Limit Insns) d h
-answers_are_exact s docs bytes (Limit Input) d l h a = by_command s docs bytes (Limit Input) d l h h.ran.meaning
-answers_are_exact s docs bytes NoMemory d l h a = absurd a
-
--- a document that is not there, where the shelf's count did not rise
-unfetched : (s : Scene) (docs : List Named) (bytes : List ℕ) → s.shelf.documents ≡ Some docs → Unfetched s → ¬ Rose s.shelf.faults s.shelf_after.faults → (outcome s.words docs bytes).end ≡ ReadFault Insns
-unfetched s docs bytes d h still = elim h.cause [
-  | inl rose ↦ absurd (still rose)
-  | inr none ↦ ap (λ o. o.end) (refused s docs bytes (ReadFault Insns) h.asked h.says (told_and s.shelf.documents docs (λ docs. opened h.asked docs ≡ Err (ReadFault Insns)) d none))
+answers_are_exact words s docs bytes end d l h a = elim (said words s end h) [
+  | inl m ↦ misused words s docs bytes end m.0 m.1 m.2
+  | inr c ↦ exact words s docs bytes d l c.asked c.says end c.means a
 ]
 
 pub runs_complete : RunsComplete
-runs_complete s docs bytes Done d l h shelf input out = inl (answers_are_exact s docs bytes Done d l h tt).0
-runs_complete s docs bytes NoMemory d l h shelf input out = inr refl
-runs_complete s docs bytes (Ragged rest) d l h shelf input out = inl (answers_are_exact s docs bytes (Ragged rest) d l h tt).0
-runs_complete s docs bytes (Usage place) d l h shelf input out = inl (answers_are_exact s docs bytes (Usage place) d l h tt).0
-runs_complete s docs bytes (Document Insns fault) d l h shelf input out = inl (answers_are_exact s docs bytes (Document Insns fault) d l h tt).0
-runs_complete s docs bytes (Document Input fault) d l h shelf input out = absurd h
-runs_complete s docs bytes (Question fault) d l h shelf input out = inl (answers_are_exact s docs bytes (Question fault) d l h tt).0
-runs_complete s docs bytes (ReadFault Insns) d l h shelf input out = inl (unfetched s docs bytes d h shelf)
-runs_complete s docs bytes (ReadFault Input) d l h shelf input out = absurd (input (source_rose s.input s.input_after s.out s.out_after (work_of h.asked h.found) h.ran.meaning))
-runs_complete s docs bytes WriteFault d l h shelf input out = absurd (out h.ran.meaning.0)
-runs_complete s docs bytes (Limit Insns) d l h shelf input out = inl (answers_are_exact s docs bytes (Limit Insns) d l h tt).0
-runs_complete s docs bytes (Limit Input) d l h shelf input out = inl (answers_are_exact s docs bytes (Limit Input) d l h tt).0
+runs_complete words s docs bytes end d l h shelf input out = elim (said words s end h) [
+  | inl m ↦ inl (misused words s docs bytes end m.0 m.1 m.2).0
+  | inr c ↦ complete words s docs bytes d l c.asked c.says end c.means shelf input out
+]
 
 pub faults_come_late : FaultsComeLate
-faults_come_late s docs bytes (ReadFault Input) d l h late early =
-    late_read s.input s.input_after s.out s.out_after bytes l (work_of h.asked h.found) (works_fit h.asked h.found) h.ran.meaning (subst (λ o. IsEarly o.end) (accepted s docs bytes (ReadFault Input) d h) early)
-faults_come_late s docs bytes WriteFault d l h late early =
-    let work : Work = work_of h.asked h.found in
-    let short = outcome_told s.input s.input_after s.out s.out_after bytes l work (λ o. TookShort s.out s.out_after o.out) h.ran.meaning.1 in
-    late_write s.input s.input_after s.out s.out_after bytes l work (works_fit h.asked h.found) short (subst (λ o. IsEarly o.end) (accepted s docs bytes WriteFault d h) early)
-faults_come_late s docs bytes (ReadFault Insns) d l h late early = late
-faults_come_late s docs bytes Done d l h late early = late
-faults_come_late s docs bytes (Ragged rest) d l h late early = late
-faults_come_late s docs bytes (Usage place) d l h late early = late
-faults_come_late s docs bytes (Document which fault) d l h late early = late
-faults_come_late s docs bytes (Question fault) d l h late early = late
-faults_come_late s docs bytes (Limit which) d l h late early = late
-faults_come_late s docs bytes NoMemory d l h late early = late
-
--- ---- a prefix went out
-
--- what holds of the work's outcome holds of the run's
-prefixed : (s : Scene) (docs : List Named) (bytes : List ℕ) (end : End) → s.shelf.documents ≡ Some docs → (h : CommandDecides s end)
-    → TookPrefix s.out s.out_after (outcome_of (work_of h.asked h.found) bytes).out → TookPrefix s.out s.out_after (outcome s.words docs bytes).out
-prefixed s docs bytes end d h took = subst (λ o. TookPrefix s.out s.out_after o.out) (sym (accepted s docs bytes end d h)) took
-
-cut_short : (s : Scene) (docs : List Named) (bytes : List ℕ) → s.shelf.documents ≡ Some docs → s.input.left ≡ Some bytes → OutOfMemory s → TookPrefix s.out s.out_after (outcome s.words docs bytes).out
-cut_short s docs bytes d l h = elim h.reached [
-  | inl untouched ↦ (0, omega arith, Appends-kept s.out.taken s.out.taken s.out_after.taken [] (Appends-nil s.out.taken) untouched.out)
-  | inr c ↦ prefixed s docs bytes NoMemory d c (outcome_told s.input s.input_after s.out s.out_after bytes l (work_of c.asked c.found) (λ o. TookPrefix s.out s.out_after o.out) c.ran.meaning)
+faults_come_late words s docs bytes end d l h is early = elim (said words s end h) [
+  | inl m ↦ (let never : IsLate (Usage m.0) = subst IsLate m.1 is in absurd never)
+  | inr c ↦ late words s docs bytes d l c.asked c.says end c.means is early
 ]
 
 pub prefixes_go_out : PrefixesGoOut
-prefixes_go_out s docs bytes (ReadFault Input) d l h cut =
-    prefixed s docs bytes (ReadFault Input) d h (source_cut s.input s.input_after s.out s.out_after bytes l (work_of h.asked h.found) (works_fit h.asked h.found) h.ran.meaning)
-prefixes_go_out s docs bytes WriteFault d l h cut =
-    let short = outcome_told s.input s.input_after s.out s.out_after bytes l (work_of h.asked h.found) (λ o. TookShort s.out s.out_after o.out) h.ran.meaning.1 in
-    prefixed s docs bytes WriteFault d h (short_is_prefix s.input s.input_after s.out s.out_after bytes l _ short)
-prefixes_go_out s docs bytes NoMemory d l h cut = cut_short s docs bytes d l h
-prefixes_go_out s docs bytes (ReadFault Insns) d l h cut = absurd cut
-prefixes_go_out s docs bytes Done d l h cut = absurd cut
-prefixes_go_out s docs bytes (Ragged rest) d l h cut = absurd cut
-prefixes_go_out s docs bytes (Usage place) d l h cut = absurd cut
-prefixes_go_out s docs bytes (Document which fault) d l h cut = absurd cut
-prefixes_go_out s docs bytes (Question fault) d l h cut = absurd cut
-prefixes_go_out s docs bytes (Limit which) d l h cut = absurd cut
+prefixes_go_out words s docs bytes end d l h is = elim (said words s end h) [
+  | inl m ↦ (let never : IsCut (Usage m.0) = subst IsCut m.1 is in absurd never)
+  | inr c ↦ cut words s docs bytes d l c.asked c.says end c.means is
+]

@@ -7,10 +7,10 @@ use Rattle.spec_instructions.specs.Tree.{Own}
 use Rattle.spec_instructions.specs.Paths.{labelled_leaf}
 use Rattle.spec_lines.specs.Listing.{words_in, rest_in, listing, rest_line, stream_lines}
 use Rattle.spec_lines.proofs.Streams.{words_in-front, listing-append}
-use Rattle.spec_command.specs.Command.{AskList, AskLeaf}
-use Rattle.spec_run.specs.Outcome.{Outcome, Limit, Input, stream_end, stream_limit, stream_outcome, leaf_outcome}
-use Rattle.spec_run.specs.Work.{list_work}
-use Rattle.spec_run.specs.Answers.{IsEarly}
+use Rattle.spec_command.specs.Commands.{AskList, AskLeaf}
+use Rattle.spec_run.specs.End.{IsEarly, Limit, Input}
+use Rattle.spec_run.specs.Work.{Outcome}
+use Rattle.spec_run.specs.Commands.{stream_end, stream_limit, stream_outcome, list_work, leaf_outcome}
 use Rattle.spec_run.specs.Fits.{IsProgress, WorksFit}
 
 -- ---- the stream's outcome within the limit and past it
@@ -58,5 +58,5 @@ leaf_fits paths (Some k) early = absurd early
 -- ---- all commands
 
 pub works_fit : WorksFit
-works_fit (AskList release) paths = list_fits paths
-works_fit (AskLeaf release label) paths = leaf_fits paths (labelled_leaf paths label)
+works_fit (AskList release) opened = list_fits opened.paths
+works_fit (AskLeaf release label) opened = leaf_fits opened.paths (labelled_leaf opened.paths label)

@@ -1,8 +1,9 @@
 -- What the laws on runs ask of a command's work.
 use Rattle.std.specs.Prelude.{◌≡◌, ◌≤◌, ◌++◌, ℕ, List, [], length}
-use Rattle.spec_command.specs.Command.{Request}
-use Rattle.spec_run.specs.Work.{Work, Once, Reads, Over, Needs, work_of}
-use Rattle.spec_run.specs.Answers.{IsEarly}
+use Rattle.spec_command.specs.Commands.{Request}
+use Rattle.spec_run.specs.End.{IsEarly}
+use Rattle.spec_run.specs.Work.{Work, Once, Reads, Over}
+use Rattle.spec_run.specs.Commands.{Needs, work_of}
 
 -- what has gone out behind a prefix of the stream stands at the front of all that goes out; no outcome is one of those that
 -- come before the stream

@@ -1,5 +1,9 @@
-pub mod Outcome
+pub mod End
+pub mod Opening
+pub mod Opens
 pub mod Work
+pub mod Commands
+pub mod Outcome
 pub mod Scene
 pub mod Ran
 pub mod Answers

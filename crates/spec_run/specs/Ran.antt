@@ -3,8 +3,8 @@ use Rattle.std.specs.Prelude.{◌≡◌, ◌≤◌, ◌+◌, ℕ, List, take, If
 use Rattle.std.specs.Io.KnownBytes.{Consumes, IsAtEnd}
 use Rattle.spec_io.specs.Faults.{Rose}
 use Rattle.spec_io.specs.States.{Reading, Writing}
-use Rattle.spec_run.specs.Outcome.{Outcome, End, Done, Ragged, Usage, Document, Question, ReadFault, WriteFault, Limit, NoMemory, Insns, Input}
-use Rattle.spec_run.specs.Work.{Work, Once, Reads, Over}
+use Rattle.spec_run.specs.End.{End, Done, Ragged, Usage, Document, Question, ReadFault, WriteFault, Limit, NoMemory, Insns, Input}
+use Rattle.spec_run.specs.Work.{Outcome, Work, Once, Reads, Over}
 use Rattle.spec_run.specs.Scene.{Took, TookPrefix, TookShort, ReadsAtMost}
 
 module _ (input input_after : Reading) (out out_after : Writing) where

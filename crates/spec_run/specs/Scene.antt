@@ -1,12 +1,11 @@
--- What a run was given, and what the objects around it tell before it and after it.
+-- What the objects around a run tell before it and after it.
 use Rattle.std.specs.Prelude.{◌≡◌, ◌≤◌, ◌<◌, ◌⊎◌, ℕ, List, length, take}
 use Rattle.std.specs.Io.KnownBytes.{Appends, Consumes}
 use Rattle.spec_io.specs.Faults.{Rose}
 use Rattle.spec_io.specs.States.{Shelving, Reading, Writing}
 
--- the words of the command line, the shelf, the source, and the sink for lines
+-- the shelf, the source, and the sink for lines
 pub record Scene : Type 0 where
-  pub words : List (List ℕ)
   pub shelf : Shelving
   pub shelf_after : Shelving
   pub input : Reading
