@@ -61,12 +61,12 @@ FieldsAreVisible = (path : List Own) → AreVisible (path_items path) (fields pa
 abbrev pub word_digits : Item → List Digit
 word_digits it = replicate (32 - (it.start + length it.digits)) Either ++ (fixed_digits it ++ replicate it.start Either)
 
--- all bits that some item fixes, unless two items fix a bit to different values
+-- all bits that some item fixes, as one pattern, unless two items fix a bit to different values
 abbrev pub joined_items : List Item → Option (List Digit)
 joined_items [] = Some (replicate 32 Either)
 joined_items (it ∷ items) = option_and_then (joined (word_digits it)) (joined_items items)
 
--- the merged bits of a path
+-- the fixed bits of a path, merged into one pattern
 abbrev pub merged : List Own → Option (List Digit)
 merged path = joined_items (path_items path)
 
@@ -94,7 +94,7 @@ pub record AreMerged (items : List Item) (digits : List Digit) : Type 0 where
 abbrev pub IsWithinWord : Item → Type 0
 IsWithinWord it = it.start + length it.digits ≤ 32
 
--- the merged bits of a path are those that its items fix, and there are none exactly where two of its items clash
+-- a path's merged bits are its fixed bits: those that its items fix, and none exactly where two of its items clash
 pub record IsExactlyMerged (items : List Item) (bits : Option (List Digit)) : Type 0 where
   pub some : (digits : List Digit) → bits ≡ Some digits → AreMerged items digits
   pub none : (bits ≡ None) ↔ HaveClash items
