@@ -1,4 +1,4 @@
--- Worked values: request lines.
+-- Worked values: command lines.
 use Rattle.std.specs.Prelude.{◌≡◌, [], ◌∷◌, Some, None, Ok, Err, codes, refl}
 use Rattle.spec_command.specs.Setting.{value_in}
 use Rattle.spec_command.specs.Commands.{AskList, AskLeaf, leaf_command}

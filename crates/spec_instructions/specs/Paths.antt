@@ -45,10 +45,11 @@ labelled sakes name k = if nat_lt 1 sakes then name ++ 35 ∷ decimal k else nam
 abbrev pub label : List (List Own) → ℕ → List ℕ
 label paths k = labelled (namesakes (path_name (slice_index_or paths k [])) paths) (path_name (slice_index_or paths k [])) k
 
--- the number of the first leaf with that label
+-- leaf k has that label
 abbrev pub has_label : List (List Own) → List ℕ → ℕ → Bool
 has_label paths text k = bytes_eq (label paths k) text
 
+-- the number of the first leaf with that label
 abbrev pub labelled_leaf : List (List Own) → List ℕ → Option ℕ
 labelled_leaf paths text = find (has_label paths text) (range_with_len 0 (length paths))
 

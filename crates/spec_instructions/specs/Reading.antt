@@ -1,12 +1,13 @@
 -- What an Instructions document gives: the tree of the chosen set and the paths to its leaves, or its first fault.
-use Rattle.std.specs.Prelude.{ℕ, List, [], Result, Ok}
+use Rattle.std.specs.Prelude.{◌≡◌, ℕ, List, [], Result, Ok}
 use Rattle.serde_json.specs.Data.{Data}
 use Rattle.spec_walk.specs.Event.{Fault}
-use Rattle.spec_walk.specs.Limits.{Counts, from_held, ◌>>=◌}
-use Rattle.spec_walk.specs.Walk.{gives}
+use Rattle.spec_walk.specs.Limits.{Counts, from_held, ◌>>=◌, judged}
+use Rattle.spec_walk.specs.Walk.{events, gives}
 use Rattle.spec_walk.specs.Spot.{root}
 use Rattle.spec_instructions.specs.Tree.{Own, Node}
 use Rattle.spec_instructions.specs.Walk.{instructions}
+use Rattle.spec_instructions.specs.Shape.{IsSetTree}
 use Rattle.spec_instructions.specs.Paths.{paths_from}
 
 -- the tree of the set of that name with the counts behind the walk, where it meets no fault and passes no limit; `held` are the texts that have a number before it
@@ -16,3 +17,13 @@ tree_read isa held d = gives (instructions isa (root d)) (from_held held)
 -- the paths to the leaves of that tree, leaf number k being the k-th, from 0
 abbrev pub paths_read : List ℕ → List (List ℕ) → Data → Result (List (List Own)) Fault
 paths_read isa held d = tree_read isa held d >>= λ read. Ok (paths_from [] read.0)
+
+-- ---- what this comes to
+
+-- the events of the walk, judged one after the other, end in the same counts or the same first fault
+abbrev pub FirstFaultDecides : Type 0
+FirstFaultDecides = (isa : List ℕ) (held : List (List ℕ)) (d : Data) → judged (events (instructions isa (root d))) (from_held held) ≡ (tree_read isa held d >>= λ read. Ok read.1)
+
+-- the root of the tree is a set and no other node is one, below each node stand only nodes that may, and names and items are as they have to be
+abbrev pub TreesAreSound : Type 0
+TreesAreSound = (isa : List ℕ) (held : List (List ℕ)) (d : Data) (tree : Node) (counts : Counts) → tree_read isa held d ≡ Ok (tree, counts) → IsSetTree tree

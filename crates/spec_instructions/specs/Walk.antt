@@ -74,7 +74,7 @@ child above here inside = kind (kind_named (kinds_in above.owner)) here >>> chil
 
 -- ---- the document
 
--- one of those before was chosen
+-- the set that was chosen, if one was
 abbrev pub chosen_in : List (Option Node) → Option Node
 chosen_in [] = None
 chosen_in (None ∷ found) = chosen_in found

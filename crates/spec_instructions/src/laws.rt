@@ -1,7 +1,19 @@
-//! Laws that readers may rely on: what the definitions of fields, merged bits and labels come to.
+//! Laws that readers may rely on: what the definitions of documents, fields, merged bits and labels come to.
 
+ghost use Rattle.spec_instructions.specs.Reading.{FirstFaultDecides, TreesAreSound};
 ghost use Rattle.spec_instructions.specs.Paths.{LabelsFindLeaves, LabelsTellLeaves};
 ghost use Rattle.spec_instructions.specs.Fields.{FieldsAreVisible, MergedIsExact};
+
+/// A law on the walk over a document: what decides is the first of its events that is a fault or passes a limit.
+pub fn first_fault_decides()
+    ensures { FirstFaultDecides }
+{}
+
+/// A law on the tree of an accepted document: its root is a set and no other node is one, below each node stand only
+/// nodes that may, names are within their limits, and each item lies within the word, with a mark for each digit.
+pub fn trees_are_sound()
+    ensures { TreesAreSound }
+{}
 
 /// A law on the visible fields: a field is there exactly where some item of the path has its name. It is the deepest
 /// item of that name, each name stands there once, and the fields stand in the order of these items.
@@ -10,13 +22,14 @@ pub fn fields_are_visible()
 {}
 
 /// A law on the merged bits: a digit fixes a bit exactly where some item of the path does, to the same value, and there
-/// are none exactly where two items of the path fix one bit to different values.
+/// are none exactly where two items of the path fix one bit to different values. All items lie within the word, as
+/// those of each document without faults do.
 pub fn merged_is_exact()
     ensures { MergedIsExact }
 {}
 
-/// Laws on labels: by one the first leaf that has it is found. Where the leaves' names hold no `#`, as in each document
-/// without faults, no two leaves have one label.
+/// Laws on labels: by one the first leaf that has it is found. Where the leaves' names are names, which hold no `#`, and
+/// the leaves no more than there may be, as in each document without faults, no two leaves have one label.
 pub fn labels_tell_leaves()
     ensures first { LabelsFindLeaves }
     ensures distinct { LabelsTellLeaves }

@@ -15,16 +15,11 @@ abbrev pub ◌>>>◌ : {A B : Type 0} → Walk A → (A → Walk B) → Walk B
 (Stop f) >>> next = Stop f
 (Meet e w) >>> next = Meet e (w >>> next)
 
--- the events alone, of which a fault is the last, and the value, where no fault ends the walk
+-- what is met, in order; a fault that ends the walk is the last
 abbrev pub events : {A : Type 0} → Walk A → List Event
 events (Done x) = []
 events (Stop f) = Wrong f ∷ []
 events (Meet e w) = e ∷ events w
-
-abbrev pub value : {A : Type 0} → Walk A → Option A
-value (Done x) = Some x
-value (Stop f) = None
-value (Meet e w) = value w
 
 -- the value with the counts behind all events, or the first fault: the one that ends the walk, or the first that passes a limit
 abbrev pub gives : {A : Type 0} → Walk A → Counts → Result (A × Counts) Fault
