@@ -24,18 +24,18 @@ use Rattle.mrs_arena.proofs.PathLaws.{ancestors-step}
 -- ---- the rest of a list
 
 -- element n, and the elements after it
-get_next : {X : Type 0} (xs : List X) (n : ℕ) (x : X) (rest : List X) → drop n xs ≡ x ∷ rest → slice_get xs n ≡ Some x
+pub get_next : {X : Type 0} (xs : List X) (n : ℕ) (x : X) (rest : List X) → drop n xs ≡ x ∷ rest → slice_get xs n ≡ Some x
 get_next {X} [] n x rest e = absurd (let none = drop-nil {A = X} n in cc)
 get_next (y ∷ xs) zero x rest e = cc
 get_next (y ∷ xs) (suc n) x rest e = get_next xs n x rest e
 
-drop_next : {X : Type 0} (xs : List X) (n : ℕ) (x : X) (rest : List X) → drop n xs ≡ x ∷ rest → drop (n + 1) xs ≡ rest
+pub drop_next : {X : Type 0} (xs : List X) (n : ℕ) (x : X) (rest : List X) → drop n xs ≡ x ∷ rest → drop (n + 1) xs ≡ rest
 drop_next {X} [] n x rest e = absurd (let none = drop-nil {A = X} n in cc)
 drop_next (y ∷ xs) zero x rest e = cc
 drop_next (y ∷ xs) (suc n) x rest e = let further : suc n + 1 ≡ suc (n + 1) = omega arith in ap (λ k. drop k (y ∷ xs)) further ∙ drop_next xs n x rest e
 
 -- the elements after several ones
-drop_past : {X : Type 0} (xs : List X) (n : ℕ) (front rest : List X) → drop n xs ≡ front ++ rest → drop (n + length front) xs ≡ rest
+pub drop_past : {X : Type 0} (xs : List X) (n : ℕ) (front rest : List X) → drop n xs ≡ front ++ rest → drop (n + length front) xs ≡ rest
 drop_past xs n [] rest e = let same : n + 0 ≡ n = omega arith in ap (λ k. drop k xs) same ∙ e
 drop_past xs n (x ∷ front) rest e =
     let further : n + suc (length front) ≡ n + 1 + length front = omega arith in
