@@ -26,24 +26,24 @@ use Rattle.mrs_arena.proofs.PathLaws.{ancestors-step}
 -- ---- the rest of a list
 
 -- element n, and the elements after it
-get_next : {X : Type 0} (xs : List X) (n : ℕ) (x : X) (rest : List X) → drop n xs ≡ x ∷ rest → slice_get xs n ≡ Some x
+pub get_next : {X : Type 0} (xs : List X) (n : ℕ) (x : X) (rest : List X) → drop n xs ≡ x ∷ rest → slice_get xs n ≡ Some x
 get_next {X} [] n x rest e = absurd (let none = drop-nil {A = X} n in cc)
 get_next (y ∷ xs) zero x rest e = cc
 get_next (y ∷ xs) (suc n) x rest e = get_next xs n x rest e
 
-drop_next : {X : Type 0} (xs : List X) (n : ℕ) (x : X) (rest : List X) → drop n xs ≡ x ∷ rest → drop (n + 1) xs ≡ rest
+pub drop_next : {X : Type 0} (xs : List X) (n : ℕ) (x : X) (rest : List X) → drop n xs ≡ x ∷ rest → drop (n + 1) xs ≡ rest
 drop_next {X} [] n x rest e = absurd (let none = drop-nil {A = X} n in cc)
 drop_next (y ∷ xs) zero x rest e = cc
 drop_next (y ∷ xs) (suc n) x rest e = let further : suc n + 1 ≡ suc (n + 1) = omega arith in ap (λ k. drop k (y ∷ xs)) further ∙ drop_next xs n x rest e
 
 -- the elements after several ones
-drop_past : {X : Type 0} (xs : List X) (n : ℕ) (front rest : List X) → drop n xs ≡ front ++ rest → drop (n + length front) xs ≡ rest
+pub drop_past : {X : Type 0} (xs : List X) (n : ℕ) (front rest : List X) → drop n xs ≡ front ++ rest → drop (n + length front) xs ≡ rest
 drop_past xs n [] rest e = let same : n + 0 ≡ n = omega arith in ap (λ k. drop k xs) same ∙ e
 drop_past xs n (x ∷ front) rest e =
     let further : n + suc (length front) ≡ n + 1 + length front = omega arith in
     ap (λ k. drop k xs) further ∙ drop_past xs (n + 1) front rest (drop_next xs n x (front ++ rest) e)
 
--- ---- paths of placed nodes
+-- ---- paths of placed_node nodes
 
 abbrev parents_in : List Placed → List (Option ℕ)
 parents_in ps = map (λ p. p.parent) ps
@@ -89,7 +89,7 @@ path_in-step ps n p rest e before =
     ∙ ap (λ owns. owns ++ own_in ps n ∷ []) (path_above-up ps p.parent)
     ∙ ap (λ last. path_above ps p.parent ++ last ∷ []) own
 
--- ---- leaves of placed nodes
+-- ---- leaves of placed_node nodes
 
 abbrev is_leaf_kind : Kind → Bool
 is_leaf_kind kind.Set = false
@@ -181,7 +181,7 @@ mutual
       ∙ ap (λ paths. paths ++ map (path_in ps) (leaf_numbers next later)) (paths_one ps parent n t (later ++ after) split before shaped.1.0)
       ∙ ap (λ paths. paths_from (path_above ps parent) t ++ paths) (paths_all ps kinds parent next ts after (drop_past ps n first (later ++ after) split) (before_later parent n next (omega arith) before) shaped.1.1)
 
--- ---- nodes of an arena as placed nodes
+-- ---- nodes of an arena as placed_node nodes
 
 -- the nodes down to node n, by what all nodes are and what stands above them
 abbrev path_by : List Own → List (Option ℕ) → ℕ → List Own

@@ -6,3 +6,4 @@ pub mod Limits
 pub mod Formed
 pub mod Inside
 pub mod Placed
+pub mod Release

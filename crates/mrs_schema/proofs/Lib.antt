@@ -9,4 +9,5 @@ pub mod OwnLaws
 pub mod NodeLaws
 pub mod StepRules
 pub mod SetLaws
+pub mod ShapedLaws
 pub mod ReleaseLaws

@@ -13,6 +13,7 @@ use Rattle.mrs_arena.proofs.TreePaths.{paths_of_tree}
 use Rattle.mrs_walk.specs.Gives.{Ends}
 use Rattle.mrs_schema.specs.Drafted.{Drafted, counts}
 use Rattle.mrs_schema.specs.Release.{IsArenaOf}
+use Rattle.mrs_schema.proofs.ShapedLaws.{release_of_tree}
 
 pub arena_read : (isa : List ℕ) (d : Data) (before names : List (List ℕ)) (nodes : List FlatNode) (old new : Drafted) (here : Spot) → here ≡ root d → old ≡ record { names = before; nodes = [] }
     → Ends (instructions isa here) (counts old) (counts new) (λ n. new.nodes ≡ preorder None 0 n)
@@ -25,11 +26,13 @@ arena_read isa d before names nodes old new here is start e same put held =
     in
     let tree = ap (λ ns. map (placed_node ns) nodes) same ∙ put ∙ e.stands in
     let shaped = read_shaped isa here _ _ e.value e.walked in
+    let held_here : AreHeld names nodes = rw same held in
     record {
       set = e.value;
       walk = walked;
       shaped = shaped;
       tree = tree;
-      held = rw same held;
+      held = held_here;
+      release = release_of_tree names nodes e.value tree shaped held_here;
       paths = ap (λ r. r >>= λ read. Ok (paths_from [] read.0)) walked ∙ ap Ok (sym (paths_of_tree names nodes e.value tree shaped.shaped));
     }

@@ -6,6 +6,7 @@ use Rattle.spec_instructions.specs.Shape.{IsSetTree}
 use Rattle.spec_instructions.specs.Reading.{tree_read, paths_read}
 use Rattle.mrs_arena.specs.Flat.{FlatNode}
 use Rattle.mrs_arena.specs.Placed.{placed_node, IsTree, AreHeld, paths_of}
+use Rattle.mrs_arena.specs.Release.{IsRelease}
 use Rattle.mrs_walk.specs.Faults.{fault_of}
 use Rattle.mrs_walk.specs.declared.fault.ReadFault.{ReadFault}
 use Rattle.mrs_walk.specs.declared.fault.ReadFault.TheVariants.{Schema, NoMemory}
@@ -22,6 +23,7 @@ pub record IsArenaOf (isa : List ℕ) (d : Data) (before names : List (List ℕ)
   pub shaped : IsSetTree set
   pub tree : IsTree names nodes set
   pub held : AreHeld names nodes
+  pub release : IsRelease names nodes
   pub paths : paths_read isa before d ≡ Ok (paths_of names nodes)
 
 -- that, or the first fault, unless memory ran out

@@ -8,6 +8,8 @@ mod names;
 mod nodes;
 mod reader;
 mod sets;
+#[cfg(test)]
+mod tests;
 
 pub use mrs_walk::{NoMemory, ReadFault, SchemaFault, Text, Why};
 pub use reader::read_instructions;

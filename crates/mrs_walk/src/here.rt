@@ -10,7 +10,10 @@ use crate::text::Text;
 use serde_json::Value;
 use std::alloc::Global;
 
-/// A value with its place in the document. Nothing is allocated until there is a fault.
+/// A value of a JSON document (RFC 8259) with its place. Nothing is allocated until there is a fault.
+///
+/// Each call asks one thing. Where it is not so, the answer is the fault that the call names, at this place if no
+/// other is named, or `NoMemory` where none was left for the fault's texts.
 #[derive(Drop)]
 pub struct Here<'a> {
     pub alloc: Global,
@@ -27,7 +30,7 @@ impl<'a> Here<'a> {
     ghost use Rattle.mrs_walk.specs.Here.{spot_of};
     ghost use Rattle.mrs_walk.specs.Gives.{Gives};
 
-    /// A whole document.
+    /// A whole document, whose place is the empty Pointer.
     pub fn root(alloc: Global, value: &'a Value) -> Here<'a>
         ensures { spot_of result ≡ root (view value.now) }
     {
@@ -38,12 +41,7 @@ impl<'a> Here<'a> {
         }
     }
 
-    /// The allocator that readers take memory from.
-    pub fn alloc(&self) -> Global {
-        self.alloc
-    }
-
-    /// The fault of that reason.
+    /// The fault of that reason at this place.
     pub fn fault(&self, why: Why) -> ReadFault
         ensures { Gives {T = ⊤} (Err result) (wrong (spot_of self.now) (why_of why)) (λ x. x) }
     {
@@ -53,7 +51,7 @@ impl<'a> Here<'a> {
         }
     }
 
-    /// The value is an object.
+    /// The value is an object; else `WrongShape`.
     pub fn object(&self) -> Result<(), ReadFault>
         ensures { Gives result (an_object (spot_of self.now)) (λ x. x) }
     {
@@ -63,7 +61,7 @@ impl<'a> Here<'a> {
         Ok(())
     }
 
-    /// The elements of an array.
+    /// The elements of an array, in order; else `WrongShape`.
     pub fn elements(&self) -> Result<&'a [Value], ReadFault>
         ensures { Gives result (elements (spot_of self.now)) (λ vs. items_view vs.now) }
     {
@@ -73,7 +71,7 @@ impl<'a> Here<'a> {
         }
     }
 
-    /// An element of an array that stands here.
+    /// The element of number `index`, from 0, of an array that stands here.
     pub fn element<'h>(&'h self, index: usize, value: &'h Value) -> Here<'h>
         ensures { spot_of result ≡ record { at = element (spot_of self.now).at index; value = view value.now } }
     {
@@ -84,7 +82,7 @@ impl<'a> Here<'a> {
         }
     }
 
-    /// The text of a value that is one.
+    /// The text of a string, as UTF-8; else `WrongShape`.
     pub fn text(&self) -> Result<&'a str, ReadFault>
         ensures { Gives result (text (spot_of self.now)) (λ t. t.now) }
     {
@@ -94,7 +92,7 @@ impl<'a> Here<'a> {
         }
     }
 
-    /// A whole number of 32 bits.
+    /// A whole number below 2^32, as `serde_json` keeps one: `1.0` and `1e0` are none. Else `WrongShape`.
     pub fn number(&self) -> Result<u32, ReadFault>
         ensures { Gives result (number_below (2 ^ 32) (spot_of self.now)) (λ n. n) }
     {
@@ -104,7 +102,7 @@ impl<'a> Here<'a> {
         }
     }
 
-    /// A member that has to be there.
+    /// The member of that name, null being a value like another; else `Missing`.
     pub fn needed<'h>(&'h self, key: &'h str) -> Result<Here<'h>, ReadFault>
         ensures { Gives result (needed key.now (spot_of self.now)) spot_of }
     {
@@ -117,7 +115,7 @@ impl<'a> Here<'a> {
         }
     }
 
-    /// A member that may be absent or null.
+    /// The member of that name, unless it is absent or null, which means the same.
     pub fn optional<'h>(&'h self, key: &'h str) -> Option<Here<'h>>
         ensures { option_map spot_of result ≡ member_at key.now (spot_of self.now) }
     {
@@ -127,7 +125,7 @@ impl<'a> Here<'a> {
         }
     }
 
-    /// The text of the member `_type` of an object.
+    /// The text of the member `_type` of an object; else `WrongShape` or `Missing`, or `WrongShape` at the member.
     pub fn kind(&self) -> Result<&str, ReadFault>
         ensures { Gives result (kind_text (spot_of self.now)) (λ t. t.now) }
     {
@@ -136,7 +134,7 @@ impl<'a> Here<'a> {
         kind.text()
     }
 
-    /// The member `_type` is that text.
+    /// The `kind` is that text; else `UnlistedKind`.
     pub fn exactly(&self, wanted: &str) -> Result<(), ReadFault>
         ensures { Gives result (exactly wanted.now (spot_of self.now)) (λ x. x) }
     {

@@ -10,8 +10,11 @@ use std::alloc::Global;
 /// A place in a document, as a chain of steps that are lent. Nothing is allocated until there is a fault.
 #[derive(Clone, Copy)]
 pub enum Place<'a> {
+    /// The document itself.
     Root,
+    /// The member of that name of the object at a place.
     Member(&'a Place<'a>, &'a str),
+    /// The element of that number, from 0, of the array at a place.
     Element(&'a Place<'a>, usize),
 }
 
@@ -19,7 +22,7 @@ impl<'a> Place<'a> {
     ghost use Rattle.std.specs.Prelude.{◌≡◌, ◌++◌, IfOk, OnOk, string_bytes};
     ghost use Rattle.mrs_walk.specs.Pointers.{pointer};
 
-    /// The JSON Pointer of the place.
+    /// The JSON Pointer (RFC 6901) of the place.
     pub fn to_text(&self, alloc: Global) -> Result<Text, NoMemory>
         ensures { IfOk result (λ t. t ≡ pointer self.now) }
     {

@@ -1,0 +1,38 @@
+//! Documents that are read, and documents that are refused.
+
+use crate::read_instructions;
+use mrs_names::Names;
+use serde_json::Value;
+use std::test::Fail;
+
+/// A set with a leaf that has one field.
+const ONE_LEAF: &str =
+    r#"{"instructions":[{"_type":"Instruction.InstructionSet","name":"A64","children":[
+ {"_type":"Instruction.Instruction","name":"NOP","encoding":{"_type":"Instruction.Encodeset.Encodeset","width":32,"values":[
+ {"_type":"Instruction.Encodeset.Field","name":"Rd","range":{"start":0,"width":5},"value":{"_type":"Values.Value","value":"'xxxxx'"}}]}}]}]}"#;
+
+#[test]
+fn documents_are_read_or_refused(rt: HostRuntime) -> Result<(), Fail> {
+    // a document, the set that is chosen, and how many nodes and names there are then, or the fault
+    let table = [
+        (ONE_LEAF, "A64", "2 nodes, 3 names"),
+        (ONE_LEAF, "T32", "no-set /instructions"),
+        ("{}", "A64", "missing:instructions "),
+    ];
+    for (document, isa, want) in table {
+        let value = Value::from_slice(rt.alloc(), document.as_bytes()).map_err(
+            |_| "no JSON reading",
+        )?;
+        let mut names = Names::new(rt.alloc());
+        let told = match read_instructions(rt.alloc(), &value, isa, &mut names) {
+            Ok(arena) => {
+                let nodes = arena.node_count();
+                let held = names.len();
+                format!(in rt.alloc(); "{nodes} nodes, {held} names")?
+            }
+            Err(fault) => fault.to_string(rt.alloc())?,
+        };
+        assert_eq!(rt; told.as_str(), want, "{isa}");
+    }
+    Ok(())
+}
