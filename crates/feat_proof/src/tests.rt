@@ -25,54 +25,22 @@ fn syntax(at: u64) -> Answer {
 }
 
 #[test]
-fn worked_logs(rt: HostRuntime) -> Result<(), Fail> {
-    let refuted = Answer::Checked(Verdict::Refuted);
-    let table: [(&[u8], Answer); 15] = [
+fn worked_texts(rt: HostRuntime) -> Result<(), Fail> {
+    let table: [(&[u8], Answer); 5] = [
         (
             b"p 3 6 1\nc 3 1\nc 3 -2\nc -3 -1 2\nc 3\nc 1\nc -2\ns : 4 5 3 6\n",
-            refuted,
+            Answer::Checked(Verdict::Refuted),
         ),
         // Clause 3 has two open literals.
         (
             b"p 3 6 1\nc 3 1\nc 3 -2\nc -3 -1 2\nc 3\nc 1\nc -2\ns : 4 3 6\n",
             fails(0),
         ),
-        // Clause 5 is not falsified.
-        (
-            b"p 3 6 1\nc 3 1\nc 3 -2\nc -3 -1 2\nc 3\nc 1\nc -2\ns : 4 5\n",
-            fails(0),
-        ),
-        (
-            b"p 3 6 1\nc 3 1\nc 3 -2\nc -3 -1 2\nc 3\nc 1\nc -2\ns 4 :\n",
-            syntax(44),
-        ),
         // Every step follows and none is empty.
         (b"p 2 2 1\nc 1\nc -1 2\ns 2 : 1 2\n", fails(1)),
-        (b"p 2 2 2\nc 1\nc -1 2\ns 2 : 1 2\n", syntax(29)),
-        // Three features and three constraints, with one pinned on and one off.
-        (
-            b"p 7 14 1\nc 5 2\nc 5 -1\nc -5 -2 1\nc 5\nc -6 3\nc -6 1\nc 6 -3 -1\nc -6\nc 7 -3\nc 7 -4\nc -7 3 4\nc 7\nc 2\nc -1\ns : 4 13 3 14\n",
-            refuted,
-        ),
-        // A step hints at the one before it, and the empty step need not be the last.
-        (
-            b"p 2 3 3\nc 1\nc -1 2\nc -2\ns 2 : 1 2\ns : 4 3\ns 1 : 1\n",
-            refuted,
-        ),
-        // At itself, and at a later one.
-        (b"p 1 1 1\nc 1\ns : 2\n", fails(0)),
-        (b"p 1 2 2\nc 1\nc -1\ns : 4\ns : 1 2\n", fails(0)),
-        // Clause 2 is falsified already, and is not the last hint.
-        (b"p 1 2 1\nc 1\nc -1\ns : 1 2 1\n", fails(0)),
-        // Equal literals count once.
-        (b"p 1 2 1\nc 1 1\nc -1 -1\ns : 1 2\n", refuted),
-        // The empty clause is falsified at once.
-        (b"p 0 1 1\nc\ns : 1\n", refuted),
-        (
-            b"p 2147483647 2 1\nc 2147483647\nc -2147483647\ns : 1 2\n",
-            refuted,
-        ),
-        (b"p 0 0 0\n", fails(0)),
+        // A step that is not as demanded, and a line that is missing.
+        (b"p 1 1 1\nc 1\ns 4 :\n", syntax(12)),
+        (b"p 1 1 1\nc 1\n", syntax(12)),
     ];
     for (text, want) in table {
         assert_eq!(rt; checked(rt.alloc(), text)?, want);
@@ -80,76 +48,13 @@ fn worked_logs(rt: HostRuntime) -> Result<(), Fail> {
     Ok(())
 }
 
-#[test]
-fn malformed_texts(rt: HostRuntime) {
-    let table: [(&[u8], u64); 40] = [
-        // The first line.
-        (b"", 0),
-        (b"p 1 0 0", 0),
-        (b"p 1 0 0\r\n", 0),
-        (b" p 1 0 0\n", 0),
-        (b"p  1 0 0\n", 0),
-        (b"p 1 0 0 \n", 0),
-        (b"p 1 0\n", 0),
-        (b"p 1 0 0 0\n", 0),
-        (b"p 01 0 0\n", 0),
-        (b"p +1 0 0\n", 0),
-        (b"p -1 0 0\n", 0),
-        (b"p 2147483648 0 0\n", 0),
-        (b"p 1 18446744073709551616 0\n", 0),
-        (b"p 1 18446744073709551615 1\n", 0),
-        // A line is missing, and one too many.
-        (b"p 1 18446744073709551615 0\n", 27),
-        (b"p 1 1 1\nc 1\n", 12),
-        (b"p 1 0 0\n\n", 8),
-        (b"p 1 1 0\nc 1\nc 1\n", 12),
-        (b"p 1 1 1\nc 1\ns : 1\ns : 1\n", 18),
-        // A clause.
-        (b"p 1 1 0\nc 1", 8),
-        (b"p 1 1 0\nc 1\r\n", 8),
-        (b"p 1 1 0\nC 1\n", 8),
-        (b"p 1 1 0\nc1\n", 8),
-        (b"p 1 1 0\nc  1\n", 8),
-        (b"p 1 1 0\nc 1 \n", 8),
-        (b"p 1 1 0\nc 0\n", 8),
-        (b"p 1 1 0\nc -0\n", 8),
-        (b"p 1 1 0\nc 01\n", 8),
-        (b"p 1 1 0\nc +1\n", 8),
-        (b"p 1 1 0\nc --1\n", 8),
-        (b"p 1 1 0\nc 2\n", 8),
-        (b"p 1 2 0\nc 1\nc -2\n", 12),
-        (b"p 1 1 0\ns 1 : 1\n", 8),
-        // A step.
-        (b"p 1 0 1\ns : 0\n", 8),
-        (b"p 1 0 1\ns : 2\n", 8),
-        (b"p 1 0 1\ns : -1\n", 8),
-        (b"p 1 0 1\ns 1\n", 8),
-        (b"p 1 0 1\ns 1: 1\n", 8),
-        (b"p 1 0 1\ns :1\n", 8),
-        (b"p 1 0 1\ns : 99999999999999999999\n", 8),
-    ];
-    for (text, at) in table {
-        assert!(rt;
-            matches!(read_log(rt.alloc(), text), Err(LogFault::Syntax { at: place }) if place == at)
-        );
-    }
-}
-
 /// A log's text is printed back as it was read.
 #[test]
 fn printed_back(rt: HostRuntime) -> Result<(), Fail> {
-    let table: [&[u8]; 5] = [
-        b"p 0 0 0\n",
-        b"p 2147483647 1 0\nc 2147483647 -2147483647 1 1\n",
-        b"p 1 1 1\nc\ns :\n",
-        b"p 12 2 2\nc 10 -11\nc -12\ns 12 -1 : 1 4 2\ns : 3\n",
-        b"p 3 6 1\nc 3 1\nc 3 -2\nc -3 -1 2\nc 3\nc 1\nc -2\ns : 4 5 3 6\n",
-    ];
-    for text in table {
-        let (cnf, log) = read_log(rt.alloc(), text)?;
-        let printed = print_log(rt.alloc(), &cnf, &log)?;
-        assert_eq!(rt; printed.as_slice(), text);
-    }
+    let text = b"p 12 2 2\nc 10 -11\nc -12\ns 12 -1 : 1 4 2\ns : 3\n".as_slice();
+    let (cnf, log) = read_log(rt.alloc(), text)?;
+    let printed = print_log(rt.alloc(), &cnf, &log)?;
+    assert_eq!(rt; printed.as_slice(), text);
     Ok(())
 }
 

@@ -113,7 +113,7 @@ impl Tree {
         self.aliases.leaves[a.0 as usize]
     }
 
-    /// A leaf's label. `names` are those that the tree was made with.
+    /// A leaf's label. `names` are those that the tree was made with, or these with more behind them (`grown_names_serve`).
     pub fn label<'a>(&'a self, l: LeafId, names: &'a Names) -> LabelRef<'a>
         requires leaf { l.0 < length (leaves_of self.now.nodes) }
         requires names { IsOf names.now self.now }
@@ -129,7 +129,7 @@ impl Tree {
         )
     }
 
-    /// The leaf with that label; `None` exactly where no leaf has it. `names` are those that the tree was made with.
+    /// The leaf with that label; `None` exactly where no leaf has it. `names` are as for `label`.
     pub fn find_label(&self, names: &Names, text: &str) -> Option<LeafId>
         requires { IsOf names.now self.now }
         ensures leaf { option_map (λ l. l.0) result ≡ labelled_leaf (tree_paths names.now self.now) text.now }
