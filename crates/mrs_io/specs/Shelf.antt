@@ -1,5 +1,5 @@
 -- What a shelf answers for a name.
-use Rattle.std.specs.Prelude.{◌≡◌, ◌⊎◌, ℕ, ◌<◌, ◌≤◌, List, [], ◌∷◌, length, None, Some, Ok, Err, Option, IfSome, IsSomeAnd, if◌then◌else◌, bytes_eq, Result, Vec}
+use Rattle.std.specs.Prelude.{◌≡◌, ◌⊎◌, ℕ, ◌<◌, ◌≤◌, List, length, None, Some, Ok, Err, Option, IfSome, IsSomeAnd, Result, Vec}
 use Rattle.std.specs.declared.alloc.Global.{Global}
 use Rattle.mrs_io.specs.declared.fault.FetchFault.{FetchFault}
 use Rattle.mrs_io.specs.declared.fault.FetchFault.TheVariants as fault

@@ -1,14 +1,12 @@
 -- From what became of what is asked for to what the run did.
-use Rattle.std.proofs.Common.{◌≡◌, ◌≤◌, ℕ, List, Ok, Err, inl, inr, ap, subst, arith}
-use Rattle.spec_io.specs.States.{Reading, Writing}
+use Rattle.std.proofs.Common.{◌≡◌, ◌≤◌, ℕ, List, Ok, Err, inl, inr, ap, arith}
 use Rattle.spec_command.specs.Commands.{Request}
 use Rattle.spec_command.specs.Request.{request}
 use Rattle.spec_run.specs.End.{End, Done, Ragged, Usage, Document as Refused, Question, ReadFault, WriteFault, Limit, NoMemory, Insns, Input, IsUsage}
-use Rattle.spec_run.specs.Work.{Work}
 use Rattle.spec_run.specs.Commands.{Needs, opened, work_of}
 use Rattle.spec_run.specs.Ran.{Ran}
-use Rattle.spec_run.specs.Scene.{Scene, Kept}
-use Rattle.spec_run.specs.Answers.{Untouched, WorkDecides, Means, Asked, Says, Performs}
+use Rattle.spec_run.specs.Scene.{Scene}
+use Rattle.spec_run.specs.Answers.{Untouched, WorkDecides, Means, Says, Performs}
 use Rattle.mrs_query.specs.Opened.{Opens, ending}
 use Rattle.mrs_query.specs.Fulfilled.{Fulfils}
 use Rattle.mrs_query.specs.End.{end_of}

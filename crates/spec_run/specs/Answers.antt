@@ -4,7 +4,7 @@ use Rattle.std.specs.Io.KnownBytes.{Keeps}
 use Rattle.spec_io.specs.States.{Writing}
 use Rattle.spec_command.specs.Commands.{Request}
 use Rattle.spec_command.specs.Request.{request}
-use Rattle.spec_run.specs.End.{End, Done, Ragged, Usage, Document, Question, ReadFault, WriteFault, Limit, NoMemory, Insns, Input, message}
+use Rattle.spec_run.specs.End.{End, Done, Ragged, Usage, Document, Question, ReadFault, WriteFault, Limit, NoMemory, Input, message}
 use Rattle.spec_run.specs.Opening.{OpeningError, NotRead, TooLong, Refused}
 use Rattle.spec_run.specs.Opens.{ShelfStill, Gives, Fails}
 use Rattle.spec_run.specs.Commands.{Needs, opened, work_of}

@@ -3,7 +3,7 @@ use Rattle.std.specs.Prelude.{◌≡◌, ◌⊎◌, List, Result, Err, IfSome, I
 use Rattle.spec_io.specs.Faults.{Rose}
 use Rattle.spec_io.specs.Documents.{Document as Named}
 use Rattle.spec_io.specs.States.{Shelving}
-use Rattle.spec_run.specs.End.{Which, Insns, Input}
+use Rattle.spec_run.specs.End.{Which, Input}
 use Rattle.spec_run.specs.Opening.{OpeningError, NotRead, TooLong, Refused}
 
 -- the stream is no document

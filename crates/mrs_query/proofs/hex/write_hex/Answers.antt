@@ -1,5 +1,5 @@
 use Rattle.std.proofs.Common.{◌<◌, ◌^◌, sym, ◌∙◌, arith}
-use Rattle.mrs_query.proofs.HexSteps.{written_start, written_next, written_last}
+use Rattle.mrs_query.proofs.HexSteps.{written_next, written_last}
 use Rattle.mrs_query.proofs.hex.write_hex.Goals as goal
 
 pub loop-start-preserved : goal.loop-start-preserved
