@@ -4,7 +4,8 @@ use Rattle.std.specs.Prelude.{decimal}
 use Rattle.std.proofs.lemmas.Bool.{and_from, le-leb}
 use Rattle.std.proofs.lemmas.Fmt.{decimal_digit}
 use Rattle.std.proofs.lemmas.List.{append_assoc}
-use Rattle.spec_refutation.proofs.Numbers.{begins_with_digit, decimal_more, no_leading_zero, too_large}
+use Rattle.spec_refutation.specs.Text.{begins_with_digit}
+use Rattle.spec_refutation.proofs.Numbers.{decimal_more, no_leading_zero, too_large}
 
 digit_begins : (d : ℕ) (rest : List ℕ) → d ≤ 9 → begins_with_digit ((48 + d) ∷ rest) ≡ true
 digit_begins d rest h = and_from _ _ (le-leb 48 (48 + d) (omega arith)) (le-leb (48 + d) 57 (omega arith))

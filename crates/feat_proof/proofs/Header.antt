@@ -2,9 +2,9 @@
 use Rattle.std.proofs.Common.{◌≡◌, ◌≢◌, ℕ, ◌+◌, ◌^◌, ◌<◌, ◌≤◌, false, List, [], ◌∷◌, ◌++◌, refl, sym, ap, ◌∙◌, arith}
 use Rattle.std.specs.Prelude.{decimal}
 use Rattle.std.proofs.lemmas.List.{append_assoc}
-use Rattle.spec_refutation.specs.Text.{spaced_numbers, first_line}
+use Rattle.spec_refutation.specs.Text.{begins_with_digit, spaced_numbers, first_line}
 use Rattle.spec_refutation.specs.Reading.{AreCounts, NoFirstLine}
-use Rattle.spec_refutation.proofs.Numbers.{begins_with_digit, same_number}
+use Rattle.spec_refutation.proofs.Numbers.{same_number}
 use Rattle.spec_refutation.proofs.Lines.{tails, first_line_is}
 use Rattle.feat_proof.specs.Scans.{NoSpacedNumber}
 

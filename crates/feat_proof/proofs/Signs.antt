@@ -2,7 +2,8 @@
 use Rattle.std.proofs.Common.{◌≡◌, ℕ, suc, ◌^◌, ◌<◌, ◌≤◌, pos, negsuc, false, List, ◌∷◌, ◌++◌, sym, ap, ◌∙◌, arith}
 use Rattle.std.specs.Prelude.{decimal}
 use Rattle.std.proofs.lemmas.Bool.{both_ways}
-use Rattle.spec_refutation.proofs.Numbers.{begins_with_digit, begins-decimal, same_number}
+use Rattle.spec_refutation.specs.Text.{begins_with_digit}
+use Rattle.spec_refutation.proofs.Numbers.{begins-decimal, same_number}
 use Rattle.spec_refutation.proofs.Lines.{tails}
 use Rattle.feat_proof.specs.Scans.{NoNumber, NoLiteral}
 

@@ -3,8 +3,7 @@ use Rattle.std.specs.Prelude.{◌≡◌, ◌≢◌, ℕ, ℤ, ◌+◌, ◌<◌, 
 use Rattle.std.specs.List.{AllByRecursion}
 use Rattle.std.specs.Fmt.{signed_decimal}
 use Rattle.spec_refutation.specs.Derivation.{Step}
-use Rattle.spec_refutation.specs.Text.{spaced_literals, spaced_numbers, clause_line, step_line}
-use Rattle.spec_refutation.proofs.Numbers.{begins_with_digit}
+use Rattle.spec_refutation.specs.Text.{begins_with_digit, spaced_literals, spaced_numbers, clause_line, step_line}
 use Rattle.spec_refutation.specs.Reading.{IsLiteral, IsClause, IsHint, IsStep, NoClauseLine, NoStepLine}
 
 -- The text is the front and then the rest, which begins with no digit: a number at the end of the front

@@ -2,7 +2,7 @@
 
 ghost use Rattle.std.specs.Prelude.{◌≡◌, ◌≢◌, ◌+◌, ◌*◌, ◌^◌, ◌<◌, ◌≤◌, ℕ, ℤ, List, ◌∷◌, ◌++◌, false, decimal, IfSome, IfNone, SomeIff};
 ghost use Rattle.std.specs.Fmt.{signed_decimal};
-ghost use Rattle.spec_refutation.proofs.Numbers.{begins_with_digit};
+ghost use Rattle.spec_refutation.specs.Text.{begins_with_digit};
 ghost use Rattle.spec_refutation.specs.Reading.{IsLiteral};
 ghost use Rattle.feat_proof.specs.Scans.{Begins, NoNumber, NoSpacedNumber, NoLiteral, NoSpacedLiteral};
 

@@ -1,5 +1,5 @@
 -- A word holds at all items along a path exactly where it holds of what they fix together.
-use Rattle.std.proofs.Common.{◌≡◌, ◌∙◌, sym, ap, refl, ℕ, zero, suc, ◌+◌, ◌-◌, ◌/◌, ◌%◌, ◌^◌, ◌≤◌, Bool, true, false, ◌&&◌, not, List, [], ◌∷◌, ◌++◌, length, map, Option, Some, None, option_and_then, replicate, All, arith, length-append}
+use Rattle.std.proofs.Common.{◌≡◌, ◌∙◌, sym, ap, refl, ℕ, zero, suc, ◌+◌, ◌-◌, ◌/◌, ◌%◌, ◌^◌, Bool, true, false, ◌&&◌, not, List, [], ◌∷◌, ◌++◌, length, map, Option, Some, None, option_and_then, replicate, All, arith, length-append}
 use Rattle.std.specs.List.{list_all}
 use Rattle.std.proofs.lemmas.Nat.{shr-shr}
 use Rattle.std.proofs.lemmas.List.{length-replicate}
@@ -9,7 +9,8 @@ use Rattle.spec_bits.specs.Pattern.{Digit, Either, digit_holds, pattern_holds, j
 use Rattle.spec_bits.specs.Item.{Item, fixed_digits, item_holds}
 use Rattle.spec_bits.proofs.PatternLaws.{joined-none, length-joined, pattern_holds-joined, pattern_holds-each, pattern_holds-mod}
 use Rattle.spec_bits.proofs.ItemLaws.{length-chosen_digits}
-use Rattle.spec_instructions.specs.Fields.{word_digits, joined_items, merged}
+use Rattle.spec_instructions.specs.Fields.{word_digits, joined_items, merged, IsWithinWord}
+use Rattle.spec_instructions.proofs.MergedLaws.{length-word_digits}
 use Rattle.spec_decode.specs.Found.{path_holds}
 use Rattle.mrs_arena.specs.Flat.{FlatItem, FlatNode}
 use Rattle.mrs_arena.specs.Formed.{IsItem, AreNodes}
@@ -62,17 +63,6 @@ holds-word it w =
 
 -- ---- digits joined
 
--- an item fits the word
-abbrev Fits32 : Item → Type 0
-Fits32 it = it.start + length it.digits ≤ 32
-
-length-word : (it : Item) → Fits32 it → length (word_digits it) ≡ 32
-length-word it fits =
-    let fixed = fixed_digits it in
-    let low = replicate it.start Either in
-    let high = replicate (32 - (it.start + length it.digits)) Either in
-    omega (arith, length-append high (fixed ++ low), length-append fixed low, length-replicate it.start Either, length-replicate (32 - (it.start + length it.digits)) Either, length-chosen_digits it.digits (map not it.marks))
-
 -- digits that clash do not both hold
 clash-holds : (ds es : List Digit) (w : ℕ) → length ds ≡ length es → joined ds es ≡ None → (pattern_holds ds w && pattern_holds es w) ≡ false
 clash-holds ds es w lens none =
@@ -94,7 +84,7 @@ and_false : (x : Bool) → false ≡ (x && false)
 and_false true = refl
 and_false false = refl
 
-joined-step : (w : ℕ) (it : Item) (items : List Item) → Fits32 it → (o : Option (List Digit)) → Joined w items o → Joined w (it ∷ items) (option_and_then (joined (word_digits it)) o)
+joined-step : (w : ℕ) (it : Item) (items : List Item) → IsWithinWord it → (o : Option (List Digit)) → Joined w items o → Joined w (it ∷ items) (option_and_then (joined (word_digits it)) o)
 joined-step w it items fits None h = record {
   holds = and_false (item_holds it w) ∙ ap (λ b. item_holds it w && b) h.holds;
   wide = λ ds e. absurd (cc);
@@ -102,7 +92,7 @@ joined-step w it items fits None h = record {
 joined-step w it items fits (Some ds) h = go (joined (word_digits it) ds) refl
   where
     same : length (word_digits it) ≡ length ds
-    same = length-word it fits ∙ sym (h.wide ds refl)
+    same = length-word_digits it fits ∙ sym (h.wide ds refl)
 
     both : (pattern_holds (word_digits it) w && pattern_holds ds w) ≡ list_all (λ it. item_holds it w) (it ∷ items)
     both = ap (λ b. b && pattern_holds ds w) (holds-word it w) ∙ ap (λ b. item_holds it w && b) h.holds
@@ -111,15 +101,15 @@ joined-step w it items fits (Some ds) h = go (joined (word_digits it) ds) refl
     go None e = record { holds = sym (clash-holds (word_digits it) ds w same e) ∙ both; wide = λ es z. absurd (cc) }
     go (Some js) e = record {
       holds = pattern_holds-joined (word_digits it) ds js w e ∙ both;
-      wide = λ es z. let is : js ≡ es = cc in ap length (sym is) ∙ (length-joined (word_digits it) ds js e).0 ∙ length-word it fits;
+      wide = λ es z. let is : js ≡ es = cc in ap length (sym is) ∙ (length-joined (word_digits it) ds js e).0 ∙ length-word_digits it fits;
     }
 
-joined-all : (w : ℕ) (items : List Item) → All Fits32 items → Joined w items (joined_items items)
+joined-all : (w : ℕ) (items : List Item) → All IsWithinWord items → Joined w items (joined_items items)
 joined-all w [] fit = record { holds = holds-either 32 w; wide = λ ds e. let is : replicate 32 Either ≡ ds = cc in ap length (sym is) ∙ length-replicate 32 Either }
-joined-all w (it ∷ items) fit = joined-step w it items (All-head Fits32 it items fit) (joined_items items) (joined-all w items (All-tail Fits32 it items fit))
+joined-all w (it ∷ items) fit = joined-step w it items (All-head IsWithinWord it items fit) (joined_items items) (joined-all w items (All-tail IsWithinWord it items fit))
 
-fit_items : (names : List (List ℕ)) (items : List FlatItem) → All IsItem items → All Fits32 (map (item_of names) items)
-fit_items names items formed = All-map Fits32 (item_of names) items (λ k d h. (formed k d h).fits)
+fit_items : (names : List (List ℕ)) (items : List FlatItem) → All IsItem items → All IsWithinWord (map (item_of names) items)
+fit_items names items formed = All-map IsWithinWord (item_of names) items (λ k d h. (formed k d h).fits)
 
 -- what the items along a path fix holds where the path does
 pub merged-holds : (names : List (List ℕ)) (nodes : List FlatNode) → AreNodes nodes → (n w : ℕ) → holds_of (merged (path_to names nodes n)) w ≡ path_holds (path_to names nodes n) w

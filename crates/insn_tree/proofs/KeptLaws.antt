@@ -11,6 +11,7 @@ use Rattle.bit_pattern.specs.Views.{digits_of}
 use Rattle.spec_instructions.specs.Fields.{merged, fields}
 use Rattle.spec_instructions.specs.Paths.{label, labelled_leaf, has_label}
 use Rattle.spec_decode.specs.Found.{path_holds}
+use Rattle.spec_walk.specs.Limits.{node_limit}
 use Rattle.mrs_names.specs.Texts.{AreNames}
 use Rattle.mrs_names.specs.declared.name_id.NameId.{NameId}
 use Rattle.mrs_arena.specs.declared.node_id.NodeId.{NodeId}
@@ -41,7 +42,7 @@ use Rattle.insn_tree.proofs.LabelLaws.{label-leaf, leaf_name-held, labelled-leaf
 
 -- ---- nodes
 
-pub few_kept : (is : Kind → Bool) (nodes : List FlatNode) → AreNodes nodes → (items : List NodeId) (kept : List ℕ) → map (λ n. n.0) items ≡ kept → length kept ≤ length nodes → length items ≤ 1048576
+pub few_kept : (is : Kind → Bool) (nodes : List FlatNode) → AreNodes nodes → (items : List NodeId) (kept : List ℕ) → map (λ n. n.0) items ≡ kept → length kept ≤ length nodes → length items ≤ node_limit
 few_kept is nodes formed items kept same few = omega (arith, ap length same, length-map items (λ (n : NodeId). n.0), formed.few)
 
 module _ (nodes : List FlatNode) (table : LeafTable) (kept : AreLeaves nodes table) (l : ℕ) (within : l < length (leaves_of nodes)) where
@@ -157,7 +158,7 @@ labels_kept nodes table kept names are held ids shared labels same also found te
     ∙ ap (λ bs. find (has_flat_label names (leaf_names nodes) bs text) (range_with_len 0 (length (leaf_names nodes)))) (also ∙ kept.shared_are)
     ∙ labelled-leaf names nodes are held kept.formed text
 
-pub few_names : (nodes : List FlatNode) (table : LeafTable) → AreLeaves nodes table → (ids : List NameId) → ids ≡ table.names.items → length ids ≤ 1048576
+pub few_names : (nodes : List FlatNode) (table : LeafTable) → AreLeaves nodes table → (ids : List NameId) → ids ≡ table.names.items → length ids ≤ node_limit
 few_names nodes table kept ids same =
     let few = kept.formed.few in
     omega (arith, ap length same, ap length kept.names_are, length-map table.names.items (λ (name : NameId). name.0), length-map (leaves_of nodes) (name_at nodes), kept_few (has_kind is_leaf nodes) (length nodes))

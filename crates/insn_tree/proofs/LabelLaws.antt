@@ -1,5 +1,5 @@
 -- Laws of labels.
-use Rattle.std.proofs.Common.{◌≡◌, ◌∙◌, sym, ap, refl, ℕ, ◌<◌, Bool, true, false, cond, List, [], ◌∷◌, ◌++◌, length, map, get_or, bytes_eq, String, string_bytes, Option, Some, None, is_some, arith}
+use Rattle.std.proofs.Common.{◌≡◌, ◌∙◌, sym, ap, refl, ℕ, ◌<◌, Bool, true, false, cond, List, [], ◌∷◌, ◌++◌, length, map, get_or, bytes_eq, Vec, Option, Some, None, is_some, arith}
 use Rattle.std.specs.Prelude.{find, nat_lt, decimal}
 use Rattle.std.specs.List.{range_with_len}
 use Rattle.std.specs.Map.{lookup}
@@ -49,12 +49,12 @@ number_of-put text put k labels = go (number_of put labels) refl
     go (Some j) e = ap (λ o. number_of text (cond (is_some o) labels (labels ++ (put, k) ∷ []))) e ∙ held j e (bytes_eq text put) refl
 
 module _ {Z : Type 0} where
-  pub lookup-labels : (text : List ℕ) (es : List (String Z × ℕ)) → lookup (λ k. bytes_eq text (string_bytes k)) es ≡ number_of text (labels_of es)
+  pub lookup-labels : (text : List ℕ) (es : List (Vec ℕ Z × ℕ)) → lookup (λ k. bytes_eq text k.items) es ≡ number_of text (labels_of es)
   lookup-labels text [] = refl
-  lookup-labels text (e ∷ es) = ap (λ o. cond (bytes_eq text (string_bytes e.0)) (Some e.1) o) (lookup-labels text es)
+  lookup-labels text (e ∷ es) = ap (λ o. cond (bytes_eq text e.0.items) (Some e.1) o) (lookup-labels text es)
 
-  pub labels_of-push : (es : List (String Z × ℕ)) (label : String Z) (k : ℕ) → labels_of (es ++ (label, k) ∷ []) ≡ labels_of es ++ (string_bytes label, k) ∷ []
-  labels_of-push es label k = map-append (λ (e : String Z × ℕ). (string_bytes e.0, e.1)) es ((label, k) ∷ [])
+  pub labels_of-push : (es : List (Vec ℕ Z × ℕ)) (label : Vec ℕ Z) (k : ℕ) → labels_of (es ++ (label, k) ∷ []) ≡ labels_of es ++ (label.items, k) ∷ []
+  labels_of-push es label k = map-append (λ (e : Vec ℕ Z × ℕ). (e.0.items, e.1)) es ((label, k) ∷ [])
 
 pub none_from : (o : Option ℕ) → is_some o ≡ false → o ≡ None
 none_from None h = refl

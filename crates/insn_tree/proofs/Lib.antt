@@ -10,3 +10,4 @@ mod CountLaws
 mod LabelLaws
 mod PartLaws
 mod KeptLaws
+pub mod GrownTrees

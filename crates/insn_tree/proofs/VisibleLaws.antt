@@ -14,7 +14,7 @@ use Rattle.mrs_arena.specs.Views.{flat_item}
 use Rattle.insn_tree.specs.declared.field_range.FieldRange.{FieldRange}
 use Rattle.insn_tree.specs.Views.{flat_field}
 use Rattle.mrs_arena.specs.Flat.{FlatItem, FlatNode}
-use Rattle.mrs_arena.specs.Nodes.{has_name}
+use Rattle.mrs_arena.specs.Nodes.{has_name_id}
 use Rattle.mrs_arena.specs.Placed.{text_of, item_of, path_to, IsHeldItem, AreHeld}
 use Rattle.insn_tree.specs.Upward.{onto}
 use Rattle.insn_tree.specs.Visible.{FlatField, has_field_name, field_named, with_named, with_field, fields_at}
@@ -49,7 +49,7 @@ named_with name it (Some other) deeper = go (list_any (has_field_name other) dee
     go true taken = or_same (other == name) (list_any (has_field_name name) deeper) (λ yes. ap (λ k. list_any (has_field_name k) deeper) (sym (eqb-true other name yes)) ∙ taken)
     go false free = list_any-append (has_field_name name) deeper (field_named other it ∷ []) ∙ or_one (other == name) (list_any (has_field_name name) deeper)
 
-named_onto : (name : ℕ) (items : List FlatItem) → list_any (has_field_name name) (onto with_field items []) ≡ list_any (has_name name) items
+named_onto : (name : ℕ) (items : List FlatItem) → list_any (has_field_name name) (onto with_field items []) ≡ list_any (has_name_id name) items
 named_onto name [] = refl
 named_onto name (it ∷ items) = named_with name it it.name (onto with_field items []) ∙ ap (λ b. is_number name it.name || b) (named_onto name items)
 
@@ -60,7 +60,7 @@ module _ (names : List (List ℕ)) (are : AreNames names) where
   named_text a ha None held = refl
   named_text a ha (Some b) held = text_eq names a b are ha held
 
-  named_texts : (a : ℕ) → a < length names → (items : List FlatItem) → All (IsHeldItem names) items → list_any (is_named (text_of names a)) (map (item_of names) items) ≡ list_any (has_name a) items
+  named_texts : (a : ℕ) → a < length names → (items : List FlatItem) → All (IsHeldItem names) items → list_any (is_named (text_of names a)) (map (item_of names) items) ≡ list_any (has_name_id a) items
   named_texts a ha [] held = refl
   named_texts a ha (it ∷ items) held =
       ap (λ b. b || list_any (is_named (text_of names a)) (map (item_of names) items)) (named_text a ha it.name (All-head (IsHeldItem names) it items held))

@@ -1,5 +1,5 @@
 -- Labels of leaves by the numbers of their names, and the leaves by their labels.
-use Rattle.std.specs.Prelude.{ℕ, Bool, false, List, [], ◌∷◌, ◌++◌, map, bytes_eq, String, string_bytes, is_some, slice_index_or, Some, None, if◌then◌else◌}
+use Rattle.std.specs.Prelude.{ℕ, Bool, false, List, [], ◌∷◌, ◌++◌, map, bytes_eq, Vec, is_some, slice_index_or, Some, None, if◌then◌else◌}
 use Rattle.mrs_arena.specs.Placed.{text_of}
 use Rattle.insn_tree.specs.Trees.{number_of, numbered}
 
@@ -19,5 +19,5 @@ abbrev pub with_label : List ℕ → ℕ → List (List ℕ × ℕ) → List (Li
 with_label text k labels = if is_some (number_of text labels) then labels else labels ++ (text, k) ∷ []
 
 -- entries of a table as labels with their leaves
-abbrev pub labels_of : {Z : Type 0} → List (String Z × ℕ) → List (List ℕ × ℕ)
-labels_of entries = map (λ e. (string_bytes e.0, e.1)) entries
+abbrev pub labels_of : {Z : Type 0} → List (Vec ℕ Z × ℕ) → List (List ℕ × ℕ)
+labels_of entries = map (λ e. (e.0.items, e.1)) entries

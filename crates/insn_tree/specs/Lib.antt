@@ -7,3 +7,4 @@ pub mod Leaves
 pub mod Labels
 pub mod Trees
 pub mod Kept
+pub mod Grown

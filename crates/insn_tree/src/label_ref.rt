@@ -1,8 +1,28 @@
 //! Labels of leaves.
 
+ghost use Rattle.std.specs.Prelude.{◌≡◌, ◌++◌, OnOk};
+ghost use Rattle.insn_tree.specs.Trees.{label_text};
+
+use itoa::Buffer;
+use std::alloc::AllocError;
+
 /// A leaf's label: its name alone, or, where another leaf has the name, the name, `#` and the leaf's number.
 #[derive(Clone, Copy, PartialEq, Eq, Debug)]
 pub struct LabelRef<'a> {
     pub name: &'a str,
     pub number: Option<u32>,
+}
+
+impl<'a> LabelRef<'a> {
+    /// Puts the label's text behind what was written.
+    pub fn push_onto(&self, out: &mut Vec<u8>) -> Result<(), AllocError>
+        ensures { OnOk result (out.new.items ≡ out.old.items ++ label_text self.now) }
+    {
+        out.extend_from_slice(self.name.as_bytes())?;
+        if let Some(number) = self.number {
+            out.push(b'#')?;
+            out.extend_from_slice(Buffer::new().format(number).as_bytes())?;
+        }
+        Ok(())
+    }
 }

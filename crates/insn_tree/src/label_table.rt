@@ -8,7 +8,7 @@ use std::marker::Model;
 /// Labels, each with the number of the first leaf that has it. A clause sees the list of these pairs.
 #[derive(Drop)]
 pub(crate) struct LabelTable {
-    leaves: IndexMap<String, u32>,
+    leaves: IndexMap<Vec<u8>, u32>,
 }
 
 impl Model for LabelTable {
@@ -21,7 +21,7 @@ impl Model for LabelTable {
 }
 
 impl LabelTable {
-    ghost use Rattle.std.specs.Prelude.{◌≡◌, [], OnOk, string_bytes};
+    ghost use Rattle.std.specs.Prelude.{◌≡◌, [], OnOk};
     ghost use Rattle.insn_tree.specs.Labels.{with_label};
     ghost use Rattle.insn_tree.specs.Trees.{number_of};
 
@@ -35,10 +35,10 @@ impl LabelTable {
     }
 
     /// Puts a leaf's label, unless an earlier leaf has it.
-    pub(crate) fn put(&mut self, label: String, leaf: u32) -> Result<(), NoMemory>
-        ensures { OnOk result (self.new ≡ with_label (string_bytes label) leaf self.old) }
+    pub(crate) fn put(&mut self, label: Vec<u8>, leaf: u32) -> Result<(), NoMemory>
+        ensures { OnOk result (self.new ≡ with_label label.items leaf self.old) }
     {
-        if self.leaves.contains_key(label.as_str()) {
+        if self.leaves.contains_key(label.as_slice()) {
             return Ok(());
         }
         self.leaves.insert(label, leaf)?;
@@ -49,6 +49,6 @@ impl LabelTable {
     pub(crate) fn find(&self, text: &str) -> Option<u32>
         ensures { result ≡ number_of text.now self.now }
     {
-        self.leaves.get(text).copied()
+        self.leaves.get(text.as_bytes()).copied()
     }
 }

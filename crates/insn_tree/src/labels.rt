@@ -1,6 +1,6 @@
 //! Labels of leaves by their names.
 
-ghost use Rattle.std.specs.Prelude.{◌≡◌, ◌<◌, ◌^◌, ℕ, List, All, IfOk, find, length, map, string_bytes, Some, None, if◌then◌else◌};
+ghost use Rattle.std.specs.Prelude.{◌≡◌, ◌<◌, ◌^◌, ℕ, List, All, IfOk, find, length, map, Some, None, if◌then◌else◌};
 ghost use Rattle.std.specs.List.{range_with_len};
 ghost use Rattle.insn_tree.specs.Trees.{number_of, label_text};
 ghost use Rattle.insn_tree.specs.Labels.{has_flat_label, flat_label};
@@ -28,14 +28,13 @@ pub(crate) fn label_of<'a>(
     }
 }
 
-/// A label as it is printed.
-fn printed(alloc: Global, label: LabelRef<'_>) -> Result<String, NoMemory>
-    ensures { IfOk result (λ text. string_bytes text ≡ label_text label.entry) }
+/// A label's text.
+fn printed(alloc: Global, label: LabelRef<'_>) -> Result<Vec<u8>, NoMemory>
+    ensures { IfOk result (λ text. text.items ≡ label_text label.entry) }
 {
-    match label.number {
-        Some(number) => Ok(format!(in alloc; "{}#{number}", label.name)?),
-        None => Ok(String::from_str(alloc, label.name)?),
-    }
+    let mut text = Vec::new(alloc);
+    label.push_onto(&mut text)?;
+    Ok(text)
 }
 
 /// The labels of the leaves of these names, which are `shared` where other leaves have them.

@@ -4,6 +4,7 @@
 mod alias_table;
 mod field_range;
 mod field_table;
+mod grown;
 mod item_fields;
 mod item_word;
 mod label_ref;
@@ -22,6 +23,7 @@ mod tests;
 mod tree;
 
 pub use field_range::FieldRange;
+pub use grown::grown_names_serve;
 pub use label_ref::LabelRef;
 pub use leaf_id::{AliasId, LeafId};
 pub use memory::NoMemory;

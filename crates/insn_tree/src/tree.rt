@@ -141,7 +141,7 @@ impl Tree {
         }
     }
 
-    /// All bits that the items along the leaf's path fix, as a pattern of 32 digits; `None` exactly where two of them fix a bit to different values.
+    /// The path's fixed bits, merged into one pattern of 32 digits: all bits that its items fix. `None` exactly where two of them fix a bit to different values.
     pub fn merged(&self, l: LeafId) -> Option<Pattern>
         requires { l.0 < length (leaves_of self.now.nodes) }
         ensures bits { (names : List (List ℕ)) → option_map digits_of result ≡ merged (path_at names self.now l.0) }

@@ -2,18 +2,18 @@
 use Rattle.std.proofs.Common.{◌≡◌, ◌∙◌, sym, ap, refl, subst, ℕ, ◌+◌, ◌<◌, ◌≤◌, false, List, length, map, get_or, set, None, arith, ◌⊎◌, inl, inr, ◌≢◌}
 use Rattle.std.proofs.lemmas.Bool.{cases_eq}
 use Rattle.std.proofs.lemmas.List.{get_or-map, length-map, map-set, set-get_or, get_or-set_same, get_or-set_other, length-set}
-use Rattle.mrs_arena.specs.declared.node.Node.{Node}
+use Rattle.mrs_arena.specs.declared.node.StoredNode.{StoredNode}
 use Rattle.mrs_arena.specs.Paths.{is_outside, end_of}
 use Rattle.mrs_arena.specs.Inside.{parent_of, without_end, HasEnds}
 use Rattle.mrs_arena.proofs.EndLaws.{end_past, end_of-above, end_of-le, end_past-subtree}
 
 -- the subtree of the node at `at` is passed over
-pub record IsPassed (nodes : List Node) (n at end : ℕ) : Type 0 where
+pub record IsPassed (nodes : List StoredNode) (n at end : ℕ) : Type 0 where
   pub further : at < end
   pub within : end ≤ length nodes
   pub past : end_past (map parent_of nodes) n end ≡ end_of (map parent_of nodes) n
 
-pub IsPassed-subtree : (nodes : List Node) (n at : ℕ) (d : Node) → HasEnds nodes (n + 1) → n < at → at < length nodes
+pub IsPassed-subtree : (nodes : List StoredNode) (n at : ℕ) (d : StoredNode) → HasEnds nodes (n + 1) → n < at → at < length nodes
     → is_outside n (parent_of (get_or nodes at d)) ≡ false → end_past (map parent_of nodes) n at ≡ end_of (map parent_of nodes) n
     → IsPassed nodes n at (get_or nodes at d).end
 IsPassed-subtree nodes n at d known after within inside past =
@@ -29,15 +29,15 @@ IsPassed-subtree nodes n at d known after within inside past =
     subst (λ (e : ℕ). IsPassed nodes n at e) (sym end) whole
 
 -- one end is written
-abbrev pub with_end : Node → ℕ → Node
+abbrev pub with_end : StoredNode → ℕ → StoredNode
 with_end node end = record node { end = end }
 
-module _ (nodes : List Node) (n : ℕ) (d : Node) (end : ℕ) where
-  abbrev pub written : List Node
+module _ (nodes : List StoredNode) (n : ℕ) (d : StoredNode) (end : ℕ) where
+  abbrev pub written : List StoredNode
   written = set nodes n (with_end (get_or nodes n d) end)
 
   -- what does not see the ends stays
-  map-written : {X : Type 0} (f : Node → X) (e : X) → f (with_end (get_or nodes n d) end) ≡ f (get_or nodes n d) → n < length nodes → map f written ≡ map f nodes
+  map-written : {X : Type 0} (f : StoredNode → X) (e : X) → f (with_end (get_or nodes n d) end) ≡ f (get_or nodes n d) → n < length nodes → map f written ≡ map f nodes
   map-written f e same within =
       map-set f nodes n (with_end (get_or nodes n d) end)
       ∙ ap (λ x. set (map f nodes) n x) (same ∙ sym (get_or-map f nodes n d e within))

@@ -7,7 +7,7 @@ use Rattle.mrs_names.specs.Texts.{IsExtended}
 use Rattle.mrs_arena.specs.declared.kind.Kind.{Kind}
 use Rattle.mrs_arena.specs.Flat.{FlatItem, FlatNode, with_text}
 use Rattle.mrs_arena.specs.Nodes.{parents_of, new_node, with_item}
-use Rattle.mrs_arena.specs.Placed.{text_of, item_of, kind_of, placed, IsHeldItem, IsHeldNode, AreHeld}
+use Rattle.mrs_arena.specs.Placed.{text_of, item_of, own_with, placed_node, IsHeldItem, IsHeldNode, AreHeld}
 
 -- ---- more names
 
@@ -27,20 +27,20 @@ items_of-more names more (it ∷ items) held =
     ap (λ first. first ∷ map (item_of (names ++ more)) items) (item_of-more names more it (All-head (IsHeldItem names) it items held))
     ∙ ap (λ rest. item_of names it ∷ rest) (items_of-more names more items (All-tail (IsHeldItem names) it items held))
 
-placed-more : (names more : List (List ℕ)) (node : FlatNode) → IsHeldNode names node → placed (names ++ more) node ≡ placed names node
+placed-more : (names more : List (List ℕ)) (node : FlatNode) → IsHeldNode names node → placed_node (names ++ more) node ≡ placed_node names node
 placed-more names more node held =
-    ap (λ name. record { parent = node.parent; own = record { kind = kind_of node.kind; name = name; items = map (item_of (names ++ more)) node.items } }) (text_of-more names more node.name held.own)
-    ∙ ap (λ items. record { parent = node.parent; own = record { kind = kind_of node.kind; name = text_of names node.name; items = items } }) (items_of-more names more node.items held.items)
+    ap (λ name. record { parent = node.parent; own = own_with node name (map (item_of (names ++ more)) node.items) }) (text_of-more names more node.name held.own)
+    ∙ ap (λ items. record { parent = node.parent; own = own_with node (text_of names node.name) items }) (items_of-more names more node.items held.items)
 
-all_placed-more : (names more : List (List ℕ)) (nodes : List FlatNode) → AreHeld names nodes → map (placed (names ++ more)) nodes ≡ map (placed names) nodes
+all_placed-more : (names more : List (List ℕ)) (nodes : List FlatNode) → AreHeld names nodes → map (placed_node (names ++ more)) nodes ≡ map (placed_node names) nodes
 all_placed-more names more [] held = refl
 all_placed-more names more (node ∷ nodes) held =
-    ap (λ first. first ∷ map (placed (names ++ more)) nodes) (placed-more names more node (All-head (IsHeldNode names) node nodes held))
-    ∙ ap (λ rest. placed names node ∷ rest) (all_placed-more names more nodes (All-tail (IsHeldNode names) node nodes held))
+    ap (λ first. first ∷ map (placed_node (names ++ more)) nodes) (placed-more names more node (All-head (IsHeldNode names) node nodes held))
+    ∙ ap (λ rest. placed_node names node ∷ rest) (all_placed-more names more nodes (All-tail (IsHeldNode names) node nodes held))
 
 -- so nodes stand for the same when names are added
-pub placed-extended : (old new : List (List ℕ)) (nodes : List FlatNode) → IsExtended old new → AreHeld old nodes → map (placed new) nodes ≡ map (placed old) nodes
-placed-extended old new nodes extended held = ap (λ names. map (placed names) nodes) extended.whole ∙ all_placed-more old extended.more nodes held
+pub placed-extended : (old new : List (List ℕ)) (nodes : List FlatNode) → IsExtended old new → AreHeld old nodes → map (placed_node new) nodes ≡ map (placed_node old) nodes
+placed-extended old new nodes extended held = ap (λ names. map (placed_node names) nodes) extended.whole ∙ all_placed-more old extended.more nodes held
 
 IsHeldItem-longer : (old new : List (List ℕ)) (name : Option ℕ) → length old ≤ length new → IfSome name (λ id. id < length old) → IfSome name (λ id. id < length new)
 IsHeldItem-longer old new None longer held = tt
@@ -73,7 +73,7 @@ AreHeld-item names it (node ∷ next ∷ rest) own held =
 
 -- ---- what nodes stand for
 
-pub parents-placed : (names : List (List ℕ)) (nodes : List FlatNode) → map (λ p. p.parent) (map (placed names) nodes) ≡ parents_of nodes
+pub parents-placed : (names : List (List ℕ)) (nodes : List FlatNode) → map (λ p. p.parent) (map (placed_node names) nodes) ≡ parents_of nodes
 parents-placed names [] = refl
 parents-placed names (node ∷ nodes) = ap (λ parents. node.parent ∷ parents) (parents-placed names nodes)
 

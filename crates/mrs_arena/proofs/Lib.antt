@@ -12,3 +12,4 @@ pub mod LastLaws
 pub mod FillLaws
 pub mod ClosedLaws
 pub mod TreePaths
+pub mod LimitLaws

@@ -4,7 +4,7 @@ use Rattle.std.specs.Prelude.{count_by}
 use Rattle.std.proofs.lemmas.List.{map-append, length-map, length_push}
 use Rattle.std.proofs.lemmas.List.Sums.{sum_by-append}
 use Rattle.mrs_arena.specs.Flat.{FlatItem, FlatNode}
-use Rattle.mrs_arena.specs.Nodes.{parents_of, items_at, last_items, path_items, named_on, with_item}
+use Rattle.mrs_arena.specs.Nodes.{parents_of, node_items, last_items, items_upward, named_on, with_item}
 use Rattle.mrs_arena.proofs.AlongLaws.{parts_at-append, parts_at-push, parts_along-append, parts_up, parts_along-push}
 
 -- ---- parents and items
@@ -22,20 +22,20 @@ abbrev items_of : FlatNode → List FlatItem
 items_of node = node.items
 
 -- the items of a node stay while more nodes are put
-pub items_at-append : (nodes more : List FlatNode) (n : ℕ) → n < length nodes → items_at (nodes ++ more) n ≡ items_at nodes n
+pub items_at-append : (nodes more : List FlatNode) (n : ℕ) → n < length nodes → node_items (nodes ++ more) n ≡ node_items nodes n
 items_at-append nodes more n h = parts_at-append parent_of items_of nodes more n h
 
-pub items_at-push : (nodes : List FlatNode) (node : FlatNode) → items_at (nodes ++ node ∷ []) (length nodes) ≡ node.items
+pub items_at-push : (nodes : List FlatNode) (node : FlatNode) → node_items (nodes ++ node ∷ []) (length nodes) ≡ node.items
 items_at-push nodes node = parts_at-push parent_of items_of nodes node
 
 pub last_items-push : (nodes : List FlatNode) (node : FlatNode) → last_items (nodes ++ node ∷ []) ≡ node.items
 last_items-push nodes node =
     let last : length (nodes ++ node ∷ []) - 1 ≡ length nodes = omega (arith, length_push nodes node) in
-    ap (λ n. items_at (nodes ++ node ∷ []) n) last ∙ items_at-push nodes node
+    ap (λ n. node_items (nodes ++ node ∷ []) n) last ∙ items_at-push nodes node
 
 -- ---- paths
 
-pub path_items-append : (nodes more : List FlatNode) (n : ℕ) → n < length nodes → path_items (nodes ++ more) n ≡ path_items nodes n
+pub path_items-append : (nodes more : List FlatNode) (n : ℕ) → n < length nodes → items_upward (nodes ++ more) n ≡ items_upward nodes n
 path_items-append nodes more n h = parts_along-append parent_of items_of nodes more n h
 
 -- the items along the path up from a node that may be there
@@ -43,7 +43,7 @@ abbrev pub items_up : List FlatNode → Option ℕ → List FlatItem
 items_up nodes parent = parts_up parent_of items_of nodes parent
 
 -- the items along the last node's path are its own and those along its parent's
-pub path_items-push : (nodes : List FlatNode) (node : FlatNode) → path_items (nodes ++ node ∷ []) (length nodes) ≡ node.items ++ items_up nodes node.parent
+pub path_items-push : (nodes : List FlatNode) (node : FlatNode) → items_upward (nodes ++ node ∷ []) (length nodes) ≡ node.items ++ items_up nodes node.parent
 path_items-push nodes node = parts_along-push parent_of items_of nodes node
 
 -- ---- how many items along a path are named

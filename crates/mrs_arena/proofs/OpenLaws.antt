@@ -5,9 +5,10 @@ use Rattle.std.specs.Int.{from_bool}
 use Rattle.std.proofs.lemmas.Bool.{cases_lt, lt-leb, or_from}
 use Rattle.std.proofs.lemmas.List.{map_push, length-map, length_push, get_or_push, get_or_append_left, drop-append-le, take-append-le, take_all, drop_all}
 use Rattle.std.proofs.lemmas.List.Elements.{All-push, All-pop, All-head, All-tail}
+use Rattle.spec_walk.specs.Limits.{node_limit}
 use Rattle.mrs_arena.specs.declared.kind.Kind.{Kind}
 use Rattle.mrs_arena.specs.declared.item.Item.{Item}
-use Rattle.mrs_arena.specs.declared.node.Node.{Node}
+use Rattle.mrs_arena.specs.declared.node.StoredNode.{StoredNode}
 use Rattle.mrs_arena.specs.declared.node_id.NodeId.{NodeId}
 use Rattle.mrs_arena.specs.Flat.{FlatNode}
 use Rattle.mrs_arena.specs.Views.{flat_item}
@@ -15,7 +16,7 @@ use Rattle.mrs_arena.specs.Paths.{IsPlace}
 use Rattle.mrs_arena.specs.Nodes.{parents_of, named_on, new_node, is_taken}
 use Rattle.mrs_arena.specs.Limits.{is_leaf, is_alias, leaf_count, alias_count, is_kind_full, is_node_refused, is_item_refused}
 use Rattle.mrs_arena.specs.Formed.{AreNodes}
-use Rattle.mrs_arena.specs.Inside.{parent_of, flat_node, flat_nodes, HasRange, kept_count, AreOpen}
+use Rattle.mrs_arena.specs.Inside.{parent_of, node_with, flat_node, flat_nodes, HasRange, kept_count, AreOpen}
 use Rattle.mrs_arena.proofs.PreorderLaws.{IsPlace-lt}
 use Rattle.mrs_arena.proofs.NodeLaws.{length-parents_of, named_in, named_up, named_on-append, named_on-push, count_by_push}
 use Rattle.mrs_arena.proofs.FormedLaws.{grown, AreNodes-none, AreNodes-push, AreNodes-item, leaf_count-push, alias_count-push}
@@ -24,26 +25,26 @@ use Rattle.mrs_arena.proofs.ItemLaws.{IsItem-flat}
 -- ---- ranges of items
 
 -- a node's items stay while more are put
-flat_node-append : (items more : List Item) (node : Node) → HasRange items node → flat_node (items ++ more) node ≡ flat_node items node
+flat_node-append : (items more : List Item) (node : StoredNode) → HasRange items node → flat_node (items ++ more) node ≡ flat_node items node
 flat_node-append items more node range =
     let there = drop-append-le node.from items more (omega (arith, range.0, range.1)) in
     let inside = take-append-le (node.to - node.from) (drop node.from items) more (omega (arith, range.0, range.1, length-drop node.from items)) in
-    ap (λ its. record { kind = node.kind; name = node.name.0; parent = parent_of node; items = map flat_item its }) (ap (λ its. take (node.to - node.from) its) there ∙ inside)
+    ap (λ its. node_with node (map flat_item its)) (ap (λ its. take (node.to - node.from) its) there ∙ inside)
 
-pub flat_nodes-append : (items more : List Item) (nodes : List Node) → All (HasRange items) nodes → flat_nodes (items ++ more) nodes ≡ flat_nodes items nodes
+pub flat_nodes-append : (items more : List Item) (nodes : List StoredNode) → All (HasRange items) nodes → flat_nodes (items ++ more) nodes ≡ flat_nodes items nodes
 flat_nodes-append items more [] ranges = refl
 flat_nodes-append items more (node ∷ nodes) ranges =
     ap (λ flat. flat ∷ flat_nodes (items ++ more) nodes) (flat_node-append items more node (All-head (HasRange items) node nodes ranges))
     ∙ ap (λ flat. flat_node items node ∷ flat) (flat_nodes-append items more nodes (All-tail (HasRange items) node nodes ranges))
 
 -- a node whose range is empty has no items
-pub flat_node-new : (items : List Item) (node : Node) → node.from ≡ length items → node.to ≡ length items → flat_node items node ≡ new_node node.kind node.name.0 (parent_of node)
+pub flat_node-new : (items : List Item) (node : StoredNode) → node.from ≡ length items → node.to ≡ length items → flat_node items node ≡ new_node node.kind node.name.0 (parent_of node)
 flat_node-new items node from to =
     let none : take (node.to - node.from) (drop node.from items) ≡ [] = ap (λ its. take (node.to - node.from) its) (drop_all node.from items (omega arith)) ∙ take_all (node.to - node.from) [] (omega arith) in
-    ap (λ its. record { kind = node.kind; name = node.name.0; parent = parent_of node; items = map flat_item its }) none
+    ap (λ its. node_with node (map flat_item its)) none
 
 -- one more item at the end of the last range
-abbrev pub longer : Node → ℕ → Node
+abbrev pub longer : StoredNode → ℕ → StoredNode
 longer node named = record node { to = node.to + 1; named = named }
 
 range_longer : (items : List Item) (it : Item) (from to : ℕ) → from ≤ to → to ≡ length items → slice_range (items ++ it ∷ []) from (to + 1) ≡ slice_range items from to ++ it ∷ []
@@ -53,10 +54,10 @@ range_longer items it from to low last =
     let after : take (to + 1 - from) (rest ++ it ∷ []) ≡ rest ++ it ∷ [] = take_all (to + 1 - from) (rest ++ it ∷ []) (omega (arith, length-drop from items, length_push rest it)) in
     ap (λ its. take (to + 1 - from) its) (drop-append-le from items (it ∷ []) (omega arith)) ∙ after ∙ ap (λ its. its ++ it ∷ []) (sym before)
 
-pub flat_node-longer : (items : List Item) (it : Item) (node : Node) (named : ℕ) → HasRange items node → node.to ≡ length items
+pub flat_node-longer : (items : List Item) (it : Item) (node : StoredNode) (named : ℕ) → HasRange items node → node.to ≡ length items
     → flat_node (items ++ it ∷ []) (longer node named) ≡ grown (flat_node items node) (flat_item it)
 flat_node-longer items it node named range last =
-    ap (λ its. record { kind = node.kind; name = node.name.0; parent = parent_of node; items = its })
+    ap (node_with node)
     (ap (map flat_item) (range_longer items it node.from node.to range.0 last) ∙ map_push flat_item (slice_range items node.from node.to) it)
 
 -- ---- one more node
@@ -71,24 +72,24 @@ AreOpen-none = record {
   formed = AreNodes-none;
 }
 
-pub flat_nodes-push : (items : List Item) (nodes : List Node) (node : Node) → node.from ≡ length items → node.to ≡ length items
+pub flat_nodes-push : (items : List Item) (nodes : List StoredNode) (node : StoredNode) → node.from ≡ length items → node.to ≡ length items
     → flat_nodes items (nodes ++ node ∷ []) ≡ flat_nodes items nodes ++ new_node node.kind node.name.0 (parent_of node) ∷ []
 flat_nodes-push items nodes node from to = map_push (flat_node items) nodes node ∙ ap (λ flat. flat_nodes items nodes ++ flat ∷ []) (flat_node-new items node from to)
 
 -- a parent that may be one is a node
-pub IfSome-place : (items : List Item) (nodes : List Node) (parent : Option NodeId) → IsPlace (parents_of (flat_nodes items nodes)) (option_map (λ p. p.0) parent) → IfSome parent (λ p. p.0 < length nodes)
+pub IfSome-place : (items : List Item) (nodes : List StoredNode) (parent : Option NodeId) → IsPlace (parents_of (flat_nodes items nodes)) (option_map (λ p. p.0) parent) → IfSome parent (λ p. p.0 < length nodes)
 IfSome-place items nodes None place = tt
 IfSome-place items nodes (Some p) place = omega (arith, IsPlace-lt (parents_of (flat_nodes items nodes)) p.0 place, length-parents_of (flat_nodes items nodes), length-map nodes (flat_node items))
 
 -- the counts that are kept are those of named items
-kept_count-is : (nodes : List Node) (items : List Item) (leaves aliases : ℕ) → AreOpen nodes items leaves aliases → (parent : Option ℕ) → IsPlace (parents_of (flat_nodes items nodes)) parent
+kept_count-is : (nodes : List StoredNode) (items : List Item) (leaves aliases : ℕ) → AreOpen nodes items leaves aliases → (parent : Option ℕ) → IsPlace (parents_of (flat_nodes items nodes)) parent
     → kept_count nodes parent ≡ named_up (flat_nodes items nodes) parent
 kept_count-is nodes items leaves aliases are None place = refl
 kept_count-is nodes items leaves aliases are (Some p) place =
     are.named p (omega (arith, IsPlace-lt (parents_of (flat_nodes items nodes)) p place, length-parents_of (flat_nodes items nodes), length-map nodes (flat_node items)))
 
 -- each count that is kept, where one more is kept behind
-kept_count-push : (nodes : List Node) (node : Node) (flat : List FlatNode) (last : FlatNode) → length flat ≡ length nodes
+kept_count-push : (nodes : List StoredNode) (node : StoredNode) (flat : List FlatNode) (last : FlatNode) → length flat ≡ length nodes
     → ((n : ℕ) → n < length nodes → kept_count nodes (Some n) ≡ named_on flat n)
     → node.named ≡ named_in last.items + named_up flat last.parent
     → (n : ℕ) → n < length (nodes ++ node ∷ []) → kept_count (nodes ++ node ∷ []) (Some n) ≡ named_on (flat ++ last ∷ []) n
@@ -106,12 +107,12 @@ kept_count-push nodes node flat last same before here n h = go (cases_lt n (leng
         let end : length flat ≡ n = omega (arith, length_push nodes node) in
         counts ∙ get_or_push (map (λ other. other.named) nodes) node.named 0 n at ∙ here ∙ sym (named_on-push flat last) ∙ ap (λ k. named_on (flat ++ last ∷ []) k) end
 
-pub last_to : (nodes : List Node) (node : Node) → get_or (map (λ other. other.to) (nodes ++ node ∷ [])) (length (nodes ++ node ∷ []) - 1) 0 ≡ node.to
+pub last_to : (nodes : List StoredNode) (node : StoredNode) → get_or (map (λ other. other.to) (nodes ++ node ∷ [])) (length (nodes ++ node ∷ []) - 1) 0 ≡ node.to
 last_to nodes node =
     ap (λ ns. get_or ns (length (nodes ++ node ∷ []) - 1) 0) (map_push (λ other. other.to) nodes node)
     ∙ get_or_push (map (λ other. other.to) nodes) node.to 0 (length (nodes ++ node ∷ []) - 1) (omega (arith, length-map nodes (λ other. other.to), length_push nodes node))
 
-pub AreOpen-push : (nodes : List Node) (items : List Item) (leaves aliases : ℕ) (node : Node) (leaves' aliases' : ℕ) → AreOpen nodes items leaves aliases
+pub AreOpen-push : (nodes : List StoredNode) (items : List Item) (leaves aliases : ℕ) (node : StoredNode) (leaves' aliases' : ℕ) → AreOpen nodes items leaves aliases
     → node.from ≡ length items → node.to ≡ length items → node.named ≡ kept_count nodes (parent_of node)
     → IsPlace (parents_of (flat_nodes items nodes)) (parent_of node) → is_node_refused (flat_nodes items nodes) node.kind ≡ false
     → leaves' ≡ leaves + cond (is_leaf node.kind) 1 0 → aliases' ≡ aliases + cond (is_alias node.kind) 1 0
@@ -131,12 +132,12 @@ AreOpen-push nodes items leaves aliases node leaves' aliases' are from to named 
     }
 
 -- what is kept decides whether a node is refused
-pub is_node_refused-kept : (nodes : List Node) (items : List Item) (leaves aliases : ℕ) (kind : Kind) → AreOpen nodes items leaves aliases → length nodes < 1048576 → is_kind_full kind leaves aliases ≡ false
+pub is_node_refused-kept : (nodes : List StoredNode) (items : List Item) (leaves aliases : ℕ) (kind : Kind) → AreOpen nodes items leaves aliases → length nodes < node_limit → is_kind_full kind leaves aliases ≡ false
     → is_node_refused (flat_nodes items nodes) kind ≡ false
 is_node_refused-kept nodes items leaves aliases kind are few room =
     let flat = flat_nodes items nodes in
-    or_from (nat_le 1048576 (length flat)) (is_kind_full kind (leaf_count flat) (alias_count flat))
-    (lt-leb 1048576 (length flat) (omega (arith, length-map nodes (flat_node items))))
+    or_from (nat_le node_limit (length flat)) (is_kind_full kind (leaf_count flat) (alias_count flat))
+    (lt-leb node_limit (length flat) (omega (arith, length-map nodes (flat_node items))))
     (ap (λ n. is_kind_full kind n (alias_count flat)) (sym are.leaves_are) ∙ ap (λ n. is_kind_full kind leaves n) (sym are.aliases_are) ∙ room)
 
 -- a count, where one is added for a test that holds
@@ -149,7 +150,7 @@ counted count more test is e f = ap (λ n. count + n) (e ∙ from_bool-is test �
 
 -- ---- one more item
 
-pub flat_nodes-item : (items : List Item) (it : Item) (front : List Node) (node : Node) (named : ℕ) → All (HasRange items) (front ++ node ∷ []) → node.to ≡ length items
+pub flat_nodes-item : (items : List Item) (it : Item) (front : List StoredNode) (node : StoredNode) (named : ℕ) → All (HasRange items) (front ++ node ∷ []) → node.to ≡ length items
     → flat_nodes (items ++ it ∷ []) (front ++ longer node named ∷ []) ≡ flat_nodes items front ++ grown (flat_node items node) (flat_item it) ∷ []
 flat_nodes-item items it front node named ranges last =
     let split = All-pop (HasRange items) (front ++ node ∷ []) front (Some node) refl ranges in
@@ -157,13 +158,13 @@ flat_nodes-item items it front node named ranges last =
     ∙ ap (λ flat. flat ++ flat_node (items ++ it ∷ []) (longer node named) ∷ []) (flat_nodes-append items (it ∷ []) front split.0)
     ∙ ap (λ flat. flat_nodes items front ++ flat ∷ []) (flat_node-longer items it node named split.1 last)
 
-wider : (items : List Item) (it : Item) (node : Node) → HasRange items node → HasRange (items ++ it ∷ []) node
+wider : (items : List Item) (it : Item) (node : StoredNode) → HasRange items node → HasRange (items ++ it ∷ []) node
 wider items it node range = (range.0, omega (arith, length_push items it, range.1))
 
-all_wider : (items : List Item) (it : Item) (nodes : List Node) → All (HasRange items) nodes → All (HasRange (items ++ it ∷ [])) nodes
+all_wider : (items : List Item) (it : Item) (nodes : List StoredNode) → All (HasRange items) nodes → All (HasRange (items ++ it ∷ [])) nodes
 all_wider items it nodes ranges k d h = wider items it (get_or nodes k d) (ranges k d h)
 
-pub AreOpen-item : (front : List Node) (node : Node) (items : List Item) (leaves aliases : ℕ) (it : Item) (named : ℕ) → AreOpen (front ++ node ∷ []) items leaves aliases
+pub AreOpen-item : (front : List StoredNode) (node : StoredNode) (items : List Item) (leaves aliases : ℕ) (it : Item) (named : ℕ) → AreOpen (front ++ node ∷ []) items leaves aliases
     → is_taken (flat_node items node).items (flat_item it).name ≡ false → is_item_refused (flat_nodes items (front ++ node ∷ [])) (flat_item it) ≡ false
     → named ≡ node.named + cond (is_some (flat_item it).name) 1 0
     → AreOpen (front ++ longer node named ∷ []) (items ++ it ∷ []) leaves aliases

@@ -11,14 +11,16 @@ use Rattle.spec_instructions.specs.Kind as kind
 use Rattle.spec_instructions.specs.Kind.{Kind, kinds_in}
 use Rattle.spec_instructions.specs.Tree.{Own, Node, node, Nodes, no_nodes, more}
 use Rattle.spec_instructions.specs.Paths.{paths_at, paths_from, paths_among}
-use Rattle.spec_instructions.proofs.Shapes.{IsAmong, IsShaped, AreShaped}
+use Rattle.spec_instructions.specs.Shape.{IsAmong, IsShaped, AreShaped}
 use Rattle.mrs_arena.specs.declared.kind.Kind as arena
 use Rattle.mrs_arena.specs.declared.kind.Kind.TheVariants as variant
 use Rattle.mrs_arena.specs.Flat.{FlatNode}
 use Rattle.mrs_arena.specs.Paths.{path_up, ancestors}
 use Rattle.mrs_arena.specs.Nodes.{parents_of}
 use Rattle.mrs_arena.specs.Limits.{is_leaf}
-use Rattle.mrs_arena.specs.Placed.{kind_of, Placed, placed, preorder, preorders, IsTree, no_own, path_to, has_kind, leaves_of, paths_of}
+use Rattle.mrs_names.specs.Texts.{IsExtended}
+use Rattle.mrs_arena.specs.Placed.{kind_of, Placed, placed_node, preorder, preorders, IsTree, no_own, path_to, has_kind, leaves_of, paths_of, AreHeld}
+use Rattle.mrs_arena.proofs.HeldLaws.{placed-extended}
 use Rattle.mrs_arena.proofs.PathLaws.{ancestors-step}
 
 -- ---- the rest of a list
@@ -185,10 +187,10 @@ mutual
 abbrev path_by : List Own → List (Option ℕ) → ℕ → List Own
 path_by owns parents n = map (λ k. slice_index_or owns k no_own) (reverse (ancestors parents n))
 
-paths_placed : (names : List (List ℕ)) (nodes : List FlatNode) (numbers : List ℕ) → map (path_to names nodes) numbers ≡ map (path_in (map (placed names) nodes)) numbers
+paths_placed : (names : List (List ℕ)) (nodes : List FlatNode) (numbers : List ℕ) → map (path_to names nodes) numbers ≡ map (path_in (map (placed_node names) nodes)) numbers
 paths_placed names nodes numbers =
-    ap (λ owns. map (path_by owns (parents_of nodes)) numbers) (sym (map-map (λ p. p.own) (placed names) nodes))
-    ∙ ap (λ parents. map (path_by (map (λ p. p.own) (map (placed names) nodes)) parents) numbers) (sym (map-map (λ p. p.parent) (placed names) nodes))
+    ap (λ owns. map (path_by owns (parents_of nodes)) numbers) (sym (map-map (λ p. p.own) (placed_node names) nodes))
+    ∙ ap (λ parents. map (path_by (map (λ p. p.own) (map (placed_node names) nodes)) parents) numbers) (sym (map-map (λ p. p.parent) (placed_node names) nodes))
 
 is_leaf-kind_of : (k : arena.Kind) → is_leaf_kind (kind_of k) ≡ is_leaf k
 is_leaf-kind_of variant.Set = refl
@@ -200,7 +202,7 @@ has_kind-next : (nodes : List FlatNode) (n : ℕ) (x : FlatNode) (rest : List Fl
 has_kind-next nodes n x rest e = ap (λ found. unwrap_or (option_map (λ node. is_leaf node.kind) found) false) (get_next nodes n x rest e)
 
 -- the leaves from node n on
-leaves_placed : (names : List (List ℕ)) (nodes : List FlatNode) (n : ℕ) (rest : List FlatNode) → drop n nodes ≡ rest → filter (has_kind is_leaf nodes) (range_with_len n (length rest)) ≡ leaf_numbers n (map (placed names) rest)
+leaves_placed : (names : List (List ℕ)) (nodes : List FlatNode) (n : ℕ) (rest : List FlatNode) → drop n nodes ≡ rest → filter (has_kind is_leaf nodes) (range_with_len n (length rest)) ≡ leaf_numbers n (map (placed_node names) rest)
 leaves_placed names nodes n [] e = refl
 leaves_placed names nodes n (x ∷ rest) e =
     let numbers = filter (has_kind is_leaf nodes) (range_with_len (n + 1) (length rest)) in
@@ -209,8 +211,15 @@ leaves_placed names nodes n (x ∷ rest) e =
 
 pub paths_of_tree : (names : List (List ℕ)) (nodes : List FlatNode) (tree : Node) → IsTree names nodes tree → IsShaped tree → paths_of names nodes ≡ paths_from [] tree
 paths_of_tree names nodes tree is shaped =
-    let ps = map (placed names) nodes in
+    let ps = map (placed_node names) nodes in
     paths_placed names nodes (leaves_of nodes)
     ∙ ap (map (path_in ps)) (leaves_placed names nodes 0 nodes refl)
     ∙ ap (λ qs. map (path_in ps) (leaf_numbers 0 qs)) is
     ∙ paths_one ps None 0 tree [] (is ∙ sym (append-nil (preorder None 0 tree))) tt shaped
+
+-- added names leave the paths to the leaves as they were
+pub paths_of-extended : (old new : List (List ℕ)) (nodes : List FlatNode) → IsExtended old new → AreHeld old nodes → paths_of new nodes ≡ paths_of old nodes
+paths_of-extended old new nodes extended held =
+    paths_placed new nodes (leaves_of nodes)
+    ∙ ap (λ ps. map (path_in ps) (leaves_of nodes)) (placed-extended old new nodes extended held)
+    ∙ sym (paths_placed old nodes (leaves_of nodes))

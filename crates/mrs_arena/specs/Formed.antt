@@ -1,6 +1,8 @@
 -- What holds of all nodes that a builder takes.
 use Rattle.std.specs.Prelude.{◌≡◌, ◌≢◌, ℕ, ◌+◌, ◌≤◌, ◌<◌, Bool, true, not, ◌&&◌, ◌||◌, List, [], ◌∷◌, length, All, AllPairs, Some, is_some}
 use Rattle.spec_bits.specs.Pattern.{Digit, digit_value}
+use Rattle.spec_walk.specs.Limits.{node_limit, leaf_limit, alias_limit}
+use Rattle.spec_instructions.specs.Limits.{item_limit, named_limit}
 use Rattle.mrs_arena.specs.Flat.{FlatItem, FlatNode}
 use Rattle.mrs_arena.specs.Paths.{IsPreorder}
 use Rattle.mrs_arena.specs.Nodes.{parents_of, named_on}
@@ -25,15 +27,15 @@ HaveOwnNames first second = (name : ℕ) → first.name ≡ Some name → second
 
 -- the items of one node
 pub record AreItems (items : List FlatItem) : Type 0 where
-  pub few : length items ≤ 64
+  pub few : length items ≤ item_limit
   pub each : All IsItem items
   pub apart : AllPairs HaveOwnNames items
 
 -- the nodes
 pub record AreNodes (nodes : List FlatNode) : Type 0 where
-  pub few : length nodes ≤ 1048576
-  pub few_leaves : leaf_count nodes ≤ 65536
-  pub few_aliases : alias_count nodes ≤ 65536
+  pub few : length nodes ≤ node_limit
+  pub few_leaves : leaf_count nodes ≤ leaf_limit
+  pub few_aliases : alias_count nodes ≤ alias_limit
   pub preorder : IsPreorder (parents_of nodes)
   pub items : All (λ node. AreItems node.items) nodes
-  pub few_named : (n : ℕ) → n < length nodes → named_on nodes n ≤ 256
+  pub few_named : (n : ℕ) → n < length nodes → named_on nodes n ≤ named_limit

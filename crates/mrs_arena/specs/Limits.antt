@@ -1,5 +1,7 @@
 -- The limits on nodes and items.
 use Rattle.std.specs.Prelude.{ℕ, ◌-◌, Bool, true, false, ◌&&◌, ◌||◌, nat_le, List, length, count_by, is_some}
+use Rattle.spec_walk.specs.Limits.{node_limit, leaf_limit, alias_limit}
+use Rattle.spec_instructions.specs.Limits.{item_limit, named_limit}
 use Rattle.mrs_arena.specs.declared.kind.Kind.{Kind}
 use Rattle.mrs_arena.specs.declared.kind.Kind.TheVariants.{Set, Group, Leaf, Alias}
 use Rattle.mrs_arena.specs.Flat.{FlatItem, FlatNode}
@@ -27,13 +29,13 @@ alias_count nodes = count_by (λ node. is_alias node.kind) nodes
 abbrev pub is_kind_full : Kind → ℕ → ℕ → Bool
 is_kind_full Set leaves aliases = false
 is_kind_full Group leaves aliases = false
-is_kind_full Leaf leaves aliases = nat_le 65536 leaves
-is_kind_full Alias leaves aliases = nat_le 65536 aliases
+is_kind_full Leaf leaves aliases = nat_le leaf_limit leaves
+is_kind_full Alias leaves aliases = nat_le alias_limit aliases
 
--- a node is refused exactly where there are 1,048,576 nodes, or it is a leaf or an alias and there are 65,536 of these
+-- a node is refused exactly where there are as many nodes as there may be, or it is a leaf or an alias and there are as many of these
 abbrev pub is_node_refused : List FlatNode → Kind → Bool
-is_node_refused nodes kind = nat_le 1048576 (length nodes) || is_kind_full kind (leaf_count nodes) (alias_count nodes)
+is_node_refused nodes kind = nat_le node_limit (length nodes) || is_kind_full kind (leaf_count nodes) (alias_count nodes)
 
--- an item is refused exactly where the last node has 64 items, or it is named and that node's path has 256 named items
+-- an item is refused exactly where the last node has as many items as it may have, or the item is named and that node's path has as many named ones
 abbrev pub is_item_refused : List FlatNode → FlatItem → Bool
-is_item_refused nodes it = nat_le 64 (length (last_items nodes)) || (is_some it.name && nat_le 256 (named_on nodes (length nodes - 1)))
+is_item_refused nodes it = nat_le item_limit (length (last_items nodes)) || (is_some it.name && nat_le named_limit (named_on nodes (length nodes - 1)))

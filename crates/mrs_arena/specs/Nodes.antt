@@ -9,18 +9,18 @@ abbrev pub parents_of : List FlatNode → List (Option ℕ)
 parents_of nodes = map (λ node. node.parent) nodes
 
 -- the items of a node, and those of the last one
-abbrev pub items_at : List FlatNode → ℕ → List FlatItem
-items_at nodes n = slice_index_or (map (λ node. node.items) nodes) n []
+abbrev pub node_items : List FlatNode → ℕ → List FlatItem
+node_items nodes n = slice_index_or (map (λ node. node.items) nodes) n []
 
 abbrev pub last_items : List FlatNode → List FlatItem
-last_items nodes = items_at nodes (length nodes - 1)
+last_items nodes = node_items nodes (length nodes - 1)
 
 -- the items of the nodes from node n up to the root, and how many of them are named
-abbrev pub path_items : List FlatNode → ℕ → List FlatItem
-path_items nodes n = flat_map (items_at nodes) (ancestors (parents_of nodes) n)
+abbrev pub items_upward : List FlatNode → ℕ → List FlatItem
+items_upward nodes n = flat_map (node_items nodes) (ancestors (parents_of nodes) n)
 
 abbrev pub named_on : List FlatNode → ℕ → ℕ
-named_on nodes n = count_by (λ it. is_some it.name) (path_items nodes n)
+named_on nodes n = count_by (λ it. is_some it.name) (items_upward nodes n)
 
 -- a node without items
 abbrev pub new_node : Kind → ℕ → Option ℕ → FlatNode
@@ -33,9 +33,9 @@ with_item it (node ∷ []) = record node { items = node.items ++ it ∷ [] } ∷
 with_item it (node ∷ next ∷ rest) = node ∷ with_item it (next ∷ rest)
 
 -- one of the items has the name, if there is one
-abbrev pub has_name : ℕ → FlatItem → Bool
-has_name name it = unwrap_or (option_map (λ other. other == name) it.name) false
+abbrev pub has_name_id : ℕ → FlatItem → Bool
+has_name_id name it = unwrap_or (option_map (λ other. other == name) it.name) false
 
 abbrev pub is_taken : List FlatItem → Option ℕ → Bool
 is_taken items None = false
-is_taken items (Some name) = list_any (has_name name) items
+is_taken items (Some name) = list_any (has_name_id name) items

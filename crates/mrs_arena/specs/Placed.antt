@@ -25,16 +25,20 @@ kind_of variant.Group = kind.Group
 kind_of variant.Leaf = kind.Leaf
 kind_of variant.Alias = kind.Alias
 
-abbrev pub own_of : List (List ℕ) → FlatNode → Own
-own_of names n = record { kind = kind_of n.kind; name = text_of names n.name; items = map (item_of names) n.items }
+-- what a node says of itself, with its name and its items by their texts
+abbrev pub own_with : FlatNode → List ℕ → List Item → Own
+own_with n name items = record { kind = kind_of n.kind; name = name; items = items }
+
+abbrev pub own_of_flat : List (List ℕ) → FlatNode → Own
+own_of_flat names n = own_with n (text_of names n.name) (map (item_of names) n.items)
 
 -- a node of a tree, with the number of the node above it
 pub record Placed : Type 0 where
   pub parent : Option ℕ
   pub own : Own
 
-abbrev pub placed : List (List ℕ) → FlatNode → Placed
-placed names n = record { parent = n.parent; own = own_of names n }
+abbrev pub placed_node : List (List ℕ) → FlatNode → Placed
+placed_node names n = record { parent = n.parent; own = own_of_flat names n }
 
 abbrev mutual
   -- a node and those below it, in the order in which one comes to them going down: the first has number n, and hangs below the parent
@@ -47,7 +51,7 @@ abbrev mutual
 
 -- the nodes are those of the tree
 abbrev pub IsTree : List (List ℕ) → List FlatNode → Node → Type 0
-IsTree names nodes tree = map (placed names) nodes ≡ preorder None 0 tree
+IsTree names nodes tree = map (placed_node names) nodes ≡ preorder None 0 tree
 
 -- ---- paths to leaves
 
@@ -56,7 +60,7 @@ abbrev pub no_own : Own
 no_own = record { kind = kind.Instance; name = []; items = [] }
 
 abbrev pub own_at : List (List ℕ) → List FlatNode → ℕ → Own
-own_at names nodes n = slice_index_or (map (own_of names) nodes) n no_own
+own_at names nodes n = slice_index_or (map (own_of_flat names) nodes) n no_own
 
 -- the nodes from the root down to node n
 abbrev pub path_to : List (List ℕ) → List FlatNode → ℕ → List Own

@@ -1,7 +1,7 @@
 //! Nodes once they are all put.
 
 use crate::item::Item;
-use crate::node::Node;
+use crate::node::StoredNode;
 use crate::node_id::NodeId;
 use crate::node_ref::NodeRef;
 use crate::path::Path;
@@ -12,7 +12,7 @@ use std::marker::Model;
 /// A clause sees the list of the nodes.
 #[derive(Drop)]
 pub struct Arena {
-    nodes: Vec<Node>,
+    nodes: Vec<StoredNode>,
     items: Vec<Item>,
 }
 
@@ -36,7 +36,7 @@ impl Arena {
     ghost use Rattle.mrs_arena.specs.Inside.{flat_nodes, AreClosed};
 
     /// The arena of these nodes and items.
-    pub(crate) fn from_parts(nodes: Vec<Node>, items: Vec<Item>) -> Arena
+    pub(crate) fn from_parts(nodes: Vec<StoredNode>, items: Vec<Item>) -> Arena
         requires { AreClosed nodes.items items.items }
         ensures { result ≡ flat_nodes items.items nodes.items }
     {

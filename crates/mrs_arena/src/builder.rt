@@ -9,7 +9,7 @@ use crate::fault::BuildFault;
 use crate::item::Item;
 use crate::kind::Kind;
 use crate::limits::{MOST_NODES, is_full, lacks_room};
-use crate::node::Node;
+use crate::node::StoredNode;
 use crate::node_id::NodeId;
 use crate::path::is_on_last_path;
 use crate::taken::is_name_of_one;
@@ -22,7 +22,7 @@ use std::marker::Model;
 /// A clause sees the list of the nodes.
 #[derive(Drop)]
 pub struct ArenaBuilder {
-    nodes: Vec<Node>,
+    nodes: Vec<StoredNode>,
     items: Vec<Item>,
     leaves: u32,
     aliases: u32,
@@ -83,7 +83,7 @@ impl ArenaBuilder {
         if number >= MOST_NODES || is_full(kind, self.leaves, self.aliases) {
             return Err(BuildFault::TooMany);
         }
-        let node = Node {
+        let node = StoredNode {
             kind,
             name,
             parent,
@@ -117,7 +117,7 @@ impl ArenaBuilder {
             return Err(BuildFault::TooMany);
         }
         self.items.push(it)?;
-        self.nodes[last] = Node {
+        self.nodes[last] = StoredNode {
             to: node.to + 1,
             named: node.named + u32::from(it.name.is_some()),
             ..node
@@ -160,7 +160,7 @@ impl ArenaBuilder {
 }
 
 /// How many named items the nodes above a node have.
-fn named_above(nodes: &[Node], parent: Option<NodeId>) -> u32
+fn named_above(nodes: &[StoredNode], parent: Option<NodeId>) -> u32
     requires { IfSome parent (λ p. p.0 < length nodes.now) }
     ensures { result ≡ kept_count nodes.now (option_map (λ p. p.0) parent) }
 {

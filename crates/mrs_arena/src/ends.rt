@@ -4,11 +4,11 @@ ghost use Rattle.std.specs.Prelude.{◌≡◌, ◌+◌, ◌<◌, ◌^◌, length
 ghost use Rattle.mrs_arena.specs.Paths.{is_outside, end_of};
 ghost use Rattle.mrs_arena.specs.Inside.{parent_of, without_end, HasEnds};
 
-use crate::node::Node;
+use crate::node::StoredNode;
 use crate::node_id::NodeId;
 
 /// Fills in the number after each node's subtree, from the last node back, in as many steps as there are nodes.
-pub(crate) fn fill_ends(nodes: &mut [Node])
+pub(crate) fn fill_ends(nodes: &mut [StoredNode])
     requires { length nodes.old < 2 ^ 32 }
     ensures same { map without_end nodes.new ≡ map without_end nodes.old }
     ensures ends { HasEnds nodes.new 0 }
@@ -21,7 +21,7 @@ pub(crate) fn fill_ends(nodes: &mut [Node])
 }
 
 /// The number after a node's subtree, where those of the nodes behind it are known: the subtrees below it follow one another.
-fn end_after(nodes: &[Node], n: usize) -> u32
+fn end_after(nodes: &[StoredNode], n: usize) -> u32
     requires few { length nodes.now < 2 ^ 32 }
     requires within { n < length nodes.now }
     requires behind { HasEnds nodes.now (n + 1) }

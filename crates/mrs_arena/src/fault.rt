@@ -1,13 +1,16 @@
 //! Why a builder takes no more.
 
 use std::alloc::{AllocError, AllocFailed};
+use thiserror::Error;
 
 /// Why a builder takes no more.
-#[derive(Clone, Copy, PartialEq, Eq, Debug)]
+#[derive(Clone, Copy, PartialEq, Eq, Debug, Error)]
 pub enum BuildFault {
     /// One more would pass a limit.
+    #[error("one more would pass a limit")]
     TooMany,
     /// No memory was left.
+    #[error("out of memory")]
     NoMemory,
 }
 

@@ -23,12 +23,12 @@ impl Item {
     ghost use Rattle.spec_bits.specs.Item.{fixed_digits, item_holds};
     ghost use Rattle.bit_pattern.specs.Views.{digits_of};
     ghost use Rattle.mrs_arena.specs.Flat.{with_text};
-    ghost use Rattle.mrs_arena.specs.Nodes.{has_name};
+    ghost use Rattle.mrs_arena.specs.Nodes.{has_name_id};
     ghost use Rattle.mrs_arena.specs.Views.{flat_item};
 
     /// Whether the item has that name.
     pub fn is_named(&self, name: NameId) -> bool
-        ensures { result ≡ has_name name.0 (flat_item self.now) }
+        ensures { result ≡ has_name_id name.0 (flat_item self.now) }
     {
         match self.name {
             Some(other) => other == name,

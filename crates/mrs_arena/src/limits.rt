@@ -1,10 +1,11 @@
 //! The limits on nodes and items, by what is kept of them.
 
 ghost use Rattle.std.specs.Prelude.{◌≡◌, ◌-◌, ◌≤◌, ◌||◌, ◌&&◌, nat_le};
+ghost use Rattle.spec_instructions.specs.Limits.{item_limit, named_limit};
 ghost use Rattle.mrs_arena.specs.Limits.{is_kind_full};
 
 use crate::kind::Kind;
-use crate::node::Node;
+use crate::node::StoredNode;
 
 /// How many nodes there are at most.
 pub(crate) const MOST_NODES: usize = 1_048_576;
@@ -31,9 +32,9 @@ pub(crate) fn is_full(kind: Kind, leaves: u32, aliases: u32) -> bool
 }
 
 /// Whether a node takes no more items, or no more named ones.
-pub(crate) fn lacks_room(node: &Node, is_named: bool) -> bool
+pub(crate) fn lacks_room(node: &StoredNode, is_named: bool) -> bool
     requires { node.now.from ≤ node.now.to }
-    ensures { result ≡ (nat_le 64 (node.now.to - node.now.from) || (is_named && nat_le 256 node.now.named)) }
+    ensures { result ≡ (nat_le item_limit (node.now.to - node.now.from) || (is_named && nat_le named_limit node.now.named)) }
 {
     node.to - node.from >= MOST_ITEMS || is_named && node.named >= MOST_NAMED
 }

@@ -6,7 +6,7 @@ use mrs_names::NameId;
 
 /// A node; its items are those from place `from` up to place `to` of the arena's items.
 #[derive(Clone, Copy)]
-pub(crate) struct Node {
+pub(crate) struct StoredNode {
     pub kind: Kind,
     pub name: NameId,
     pub parent: Option<NodeId>,

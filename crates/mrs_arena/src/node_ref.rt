@@ -2,7 +2,7 @@
 
 use crate::item::Item;
 use crate::kind::Kind;
-use crate::node::Node;
+use crate::node::StoredNode;
 use crate::node_id::NodeId;
 use mrs_names::NameId;
 use std::marker::Model;
@@ -10,7 +10,7 @@ use std::marker::Model;
 /// One node of an arena: what was put, and where its subtree ends.
 #[derive(Drop)]
 pub struct NodeRef<'a> {
-    node: &'a Node,
+    node: &'a StoredNode,
     items: &'a [Item],
 }
 
@@ -28,18 +28,20 @@ impl<'a> NodeRef<'a> {
     ghost use Rattle.mrs_arena.specs.Views.{flat_item};
     ghost use Rattle.mrs_arena.specs.Inside.{arena_node};
 
-    pub(crate) fn new(node: &'a Node, items: &'a [Item]) -> NodeRef<'a>
+    pub(crate) fn new(node: &'a StoredNode, items: &'a [Item]) -> NodeRef<'a>
         ensures { result ≡ arena_node items.now node.now }
     {
         NodeRef { node, items }
     }
 
+    /// What the node is.
     pub fn kind(&self) -> Kind
         ensures { result ≡ self.now.own.kind }
     {
         self.node.kind
     }
 
+    /// The number of the node's name.
     pub fn name(&self) -> NameId
         ensures { result.0 ≡ self.now.own.name }
     {

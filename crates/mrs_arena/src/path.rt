@@ -4,14 +4,14 @@ ghost use Rattle.std.specs.Prelude.{◌≡◌, ◌<◌, ◌≤◌, ◌^◌, ◌�
 ghost use Rattle.mrs_arena.specs.Paths.{ancestors, last_path, IsPreorder};
 ghost use Rattle.mrs_arena.specs.Inside.{parent_of};
 
-use crate::node::Node;
+use crate::node::StoredNode;
 use crate::node_id::NodeId;
 use std::marker::Model;
 
 /// The nodes from one up to the root. A clause sees the list of the numbers that are left.
 #[derive(Drop)]
 pub struct Path<'a> {
-    nodes: &'a [Node],
+    nodes: &'a [StoredNode],
     next: Option<NodeId>,
 }
 
@@ -32,7 +32,7 @@ impl<'a> Path<'a> {
     ghost use Rattle.mrs_arena.specs.Paths.{ancestors, IsPreorder};
     ghost use Rattle.mrs_arena.specs.Inside.{parent_of};
 
-    pub(crate) fn new(nodes: &'a [Node], n: NodeId) -> Path<'a>
+    pub(crate) fn new(nodes: &'a [StoredNode], n: NodeId) -> Path<'a>
         requires order { IsPreorder (map parent_of nodes.now) }
         requires within { n.0 < length nodes.now }
         ensures { result ≡ ancestors (map parent_of nodes.now) n.0 }
@@ -60,7 +60,7 @@ impl<'a> Iterator for Path<'a> {
     }
 }
 
-fn parent_at(nodes: &[Node], n: NodeId) -> Option<NodeId>
+fn parent_at(nodes: &[StoredNode], n: NodeId) -> Option<NodeId>
     requires { n.0 < length nodes.now }
     ensures { option_map (λ p. p.0) result ≡ slice_index_or (map parent_of nodes.now) n.0 None }
 {
@@ -68,7 +68,7 @@ fn parent_at(nodes: &[Node], n: NodeId) -> Option<NodeId>
 }
 
 /// Whether a node is the last one or stands above it.
-pub(crate) fn is_on_last_path(nodes: &[Node], node: NodeId) -> bool
+pub(crate) fn is_on_last_path(nodes: &[StoredNode], node: NodeId) -> bool
     requires order { IsPreorder (map parent_of nodes.now) }
     requires few { length nodes.now ≤ 2 ^ 32 }
     ensures { IsTrue result ↔ Contains (last_path (map parent_of nodes.now)) node.0 }
@@ -80,7 +80,7 @@ pub(crate) fn is_on_last_path(nodes: &[Node], node: NodeId) -> bool
 }
 
 /// Whether a node is on the path of node `n`.
-fn is_on_path(nodes: &[Node], n: usize, node: NodeId) -> bool
+fn is_on_path(nodes: &[StoredNode], n: usize, node: NodeId) -> bool
     requires order { IsPreorder (map parent_of nodes.now) }
     requires few { length nodes.now ≤ 2 ^ 32 }
     requires within { n < length nodes.now }

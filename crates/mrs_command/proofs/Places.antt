@@ -3,9 +3,8 @@ use Rattle.std.proofs.Common.{◌≡◌, ℕ, suc, ◌+◌, ◌-◌, ◌<◌, Bo
 use Rattle.std.specs.List.{find, list_all, range_with_len}
 use Rattle.std.proofs.lemmas.List.{take-map, get_or-map}
 use Rattle.std.proofs.lemmas.List.Folds.{list_all-map, list_all_more}
-use Rattle.spec_command.specs.Verb.{Verb}
 use Rattle.spec_command.specs.Setting.{setting_in}
-use Rattle.spec_command.specs.Command.{is_good, is_bad_at}
+use Rattle.spec_command.specs.Request.{is_good, is_bad_at}
 use Rattle.mrs_command.specs.Words.{is_setting}
 
 -- the places that are left begin with the next one
@@ -19,23 +18,23 @@ pub found_later : (test : ℕ → Bool) (i n : ℕ) → i < n → test i ≡ fal
 found_later test i n h fails = rw (left i n h, fails) refl
 
 -- the word at a place is bad just where it is not good behind the words before it
-bad_at : (verb : Verb) (words : List (String Global)) (i : ℕ) (word : String Global) → i < length words → word ≡ get_or words i word
-    → is_bad_at verb (map string_bytes words) i ≡ not (is_good verb (map string_bytes (take i words)) (setting_in (string_bytes word)))
-bad_at verb words i word h is = rw (take-map string_bytes i words, get_or-map string_bytes words i word [] h, ← is) refl
+bad_at : (keys : List (List ℕ)) (words : List (String Global)) (i : ℕ) (word : String Global) → i < length words → word ≡ get_or words i word
+    → is_bad_at keys (map string_bytes words) i ≡ not (is_good keys (map string_bytes (take i words)) (setting_in (string_bytes word)))
+bad_at keys words i word h is = rw (take-map string_bytes i words, get_or-map string_bytes words i word [] h, ← is) refl
 
-pub judged_here : (verb : Verb) (words : List (String Global)) (i : ℕ) (word : String Global) (text : List ℕ) (good : Bool) → i < length words → word ≡ get_or words i word → text ≡ string_bytes word
-    → good ≡ is_good verb (map string_bytes (take i words)) (setting_in text) → is_bad_at verb (map string_bytes words) i ≡ not good
-judged_here verb words i word text good h is reads judged = bad_at verb words i word h is ∙ ap not (rw (← reads) (sym judged))
+pub judged_here : (keys : List (List ℕ)) (words : List (String Global)) (i : ℕ) (word : String Global) (text : List ℕ) (good : Bool) → i < length words → word ≡ get_or words i word → text ≡ string_bytes word
+    → good ≡ is_good keys (map string_bytes (take i words)) (setting_in text) → is_bad_at keys (map string_bytes words) i ≡ not good
+judged_here keys words i word text good h is reads judged = bad_at keys words i word h is ∙ ap not (rw (← reads) (sym judged))
 
 -- a good word is a setting
-good_is_setting : (verb : Verb) (earlier : List (List ℕ)) (setting : Option (List ℕ × List ℕ)) → is_good verb earlier setting ≡ true → is_some setting ≡ true
-good_is_setting verb earlier None h = absurd cc
-good_is_setting verb earlier (Some pair) h = refl
+good_is_setting : (keys : List (List ℕ)) (earlier : List (List ℕ)) (setting : Option (List ℕ × List ℕ)) → is_good keys earlier setting ≡ true → is_some setting ≡ true
+good_is_setting keys earlier None h = absurd cc
+good_is_setting keys earlier (Some pair) h = refl
 
-pub settings_more : (verb : Verb) (words : List (String Global)) (i : ℕ) (word : String Global) (text : List ℕ) → i < length words → word ≡ get_or words i word → text ≡ string_bytes word
-    → list_all is_setting (map string_bytes (take i words)) ≡ true → is_good verb (map string_bytes (take i words)) (setting_in text) ≡ true
+pub settings_more : (keys : List (List ℕ)) (words : List (String Global)) (i : ℕ) (word : String Global) (text : List ℕ) → i < length words → word ≡ get_or words i word → text ≡ string_bytes word
+    → list_all is_setting (map string_bytes (take i words)) ≡ true → is_good keys (map string_bytes (take i words)) (setting_in text) ≡ true
     → list_all is_setting (map string_bytes (take (i + 1) words)) ≡ true
-settings_more verb words i word text h is reads before good =
+settings_more keys words i word text h is reads before good =
     let each : String Global → Bool = λ w. is_setting (string_bytes w) in
     list_all-map is_setting string_bytes (take (i + 1) words) ∙ list_all_more each words i word h
-    ∙ rw (sym (list_all-map is_setting string_bytes (take i words)) ∙ before, ← is, ← reads) (good_is_setting verb (map string_bytes (take i words)) (setting_in text) good)
+    ∙ rw (sym (list_all-map is_setting string_bytes (take i words)) ∙ before, ← is, ← reads) (good_is_setting keys (map string_bytes (take i words)) (setting_in text) good)

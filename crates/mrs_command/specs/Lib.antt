@@ -1,2 +1,2 @@
-pub mod Verb
+pub mod Commands
 pub mod Words

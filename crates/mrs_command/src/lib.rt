@@ -1,15 +1,14 @@
-//! The words of the command line. No call takes memory.
+//! The words of the command line. They give one value for each command, in which what the keys say stands under names of
+//! its own: a needed key is there, and another one has its default. No call takes memory.
 #![tactic(auto)]
 
-mod command;
-mod pairs;
+mod bad_word;
+mod commands;
 mod reading;
-mod verb;
-
-pub use command::Command;
-pub use pairs::Pairs;
-pub use reading::{BadWord, read_command};
-pub use verb::Verb;
-
+mod settings;
 #[cfg(test)]
 mod tests;
+
+pub use bad_word::BadWord;
+pub use commands::{Release, Request};
+pub use reading::read_request;

@@ -2,28 +2,23 @@
 ghost use Rattle.std.specs.Prelude.{◌≡◌, ◌<◌, length, take, map, string_bytes, IfSome, IfNone, IsTrue, MatchResult, Ok, Err};
 ghost use Rattle.std.specs.List.{list_all};
 ghost use Rattle.spec_command.specs.Setting.{setting_in};
-ghost use Rattle.spec_command.specs.Command as spec;
+ghost use Rattle.spec_command.specs.Request as spec;
 ghost use Rattle.mrs_command.specs.Words.{is_setting};
-ghost use Rattle.mrs_command.specs.Verb.{verb_of};
+ghost use Rattle.mrs_command.specs.Commands.{command_of, asked_of};
 
-use crate::command::Command;
-use crate::verb::Verb;
+use crate::bad_word::BadWord;
+use crate::commands::{Request, Verb};
+use crate::settings::Settings;
 
-/// The word at `place`, from 0, is not as demanded; at the number of words, a key is missing.
-#[derive(Clone, Copy, PartialEq, Eq, Debug)]
-pub struct BadWord {
-    pub place: u64,
-}
-
-/// The command that the words of a command line say, or the place of the first bad word.
+/// What the words of a command line ask for, or the place of the first bad word.
 ///
 /// The first word is the command, and each other word is `key=value`, split at its first `=`. Bad words are an unknown
 /// command, a word without a `=`, a key that the command does not have, a key that an earlier word has, and an empty
 /// value. A missing command is place 0. Where no word is bad, a missing key is refused at the number of words.
-pub fn read_command(words: &[String]) -> Result<Command<'_>, BadWord>
+pub fn read_request(words: &[String]) -> Result<Request<'_>, BadWord>
     ensures { MatchResult result
-        (λ command. spec.command (map string_bytes words.now) ≡ Ok command)
-        (λ bad. spec.command (map string_bytes words.now) ≡ Err bad.place) }
+        (λ asked. spec.request (map string_bytes words.now) ≡ Ok (asked_of asked))
+        (λ bad. spec.request (map string_bytes words.now) ≡ Err bad.place) }
 {
     let [first, settings @ ..] = words else {
         return Err(BadWord { place: 0 });
@@ -36,19 +31,17 @@ pub fn read_command(words: &[String]) -> Result<Command<'_>, BadWord>
             place: place as u64 + 1,
         });
     }
-    let command = Command::new(verb, settings);
-    if command.has_needed() {
-        Ok(command)
-    } else {
-        Err(BadWord {
+    match verb.request(&Settings::new(settings)) {
+        Some(asked) => Ok(asked),
+        None => Err(BadWord {
             place: words.len() as u64,
-        })
+        }),
     }
 }
 
 /// The place of the first bad word among those behind the command.
 fn first_bad(verb: Verb, words: &[String]) -> Option<usize>
-    ensures place { result ≡ spec.first_bad (verb_of verb) (map string_bytes words.now) }
+    ensures place { result ≡ spec.first_bad (command_of verb).asks.keys (map string_bytes words.now) }
     ensures within { IfSome result (λ place. place < length words.now) }
     ensures settings { IfNone result (IsTrue (list_all is_setting (map string_bytes words.now))) }
 {
@@ -63,10 +56,10 @@ fn first_bad(verb: Verb, words: &[String]) -> Option<usize>
 /// Whether a word is good behind earlier words, of which each has a `=`.
 fn is_good(verb: Verb, earlier: &[String], word: &str) -> bool
     requires { IsTrue (list_all is_setting (map string_bytes earlier.now)) }
-    ensures { result ≡ spec.is_good (verb_of verb) (map string_bytes earlier.now) (setting_in word.now) }
+    ensures { result ≡ spec.is_good (command_of verb).asks.keys (map string_bytes earlier.now) (setting_in word.now) }
 {
     let Some((key, value)) = word.split_once('=') else {
         return false;
     };
-    !value.is_empty() && verb.has_key(key) && Command::new(verb, earlier).value(key).is_none()
+    !value.is_empty() && verb.has_key(key) && Settings::new(earlier).value(key).is_none()
 }

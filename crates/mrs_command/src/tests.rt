@@ -1,24 +1,28 @@
-//! Command lines, and what they say.
-use crate::{Verb, read_command};
+//! Command lines, and what they ask for.
+use crate::{BadWord, Release, Request, read_request};
 use std::test::Fail;
+
+/// `list` of the set `isa` of the document `insns`.
+fn list<'a>(insns: &'a str, isa: &'a str) -> Result<Request<'a>, u64> {
+    Ok(Request::List {
+        release: Release { insns, isa },
+    })
+}
 
 #[test]
 fn command_lines(rt: HostRuntime) -> Result<(), Fail> {
     let alloc = rt.alloc();
-    // words that stand between spaces, and the command with its keys and values, or the place of the first bad word
-    let table: [(&str, Result<(Verb, &[(&str, &str)]), u64>); 24] = [
+    // words that stand between spaces, and what they ask for, or the place of the first bad word
+    let table: [(&str, Result<Request<'_>, u64>); 24] = [
         ("", Err(0)),
         ("--help", Err(0)),
         ("List insns=i", Err(0)),
         ("insns=i list", Err(0)),
         ("list", Err(1)),
-        ("list insns=i", Ok((Verb::List, &[("insns", "i")]))),
-        ("list insns=a=b", Ok((Verb::List, &[("insns", "a=b")]))),
-        ("list insns==", Ok((Verb::List, &[("insns", "=")]))),
-        (
-            "list isa=A64 insns=i",
-            Ok((Verb::List, &[("isa", "A64"), ("insns", "i")])),
-        ),
+        ("list insns=i", list("i", "A64")),
+        ("list insns=a=b", list("a=b", "A64")),
+        ("list insns==", list("=", "A64")),
+        ("list isa=T32 insns=i", list("i", "T32")),
         ("list isa=X", Err(2)),
         ("list insns=i jobs=0", Err(2)),
         ("list insns=i label=x", Err(2)),
@@ -35,10 +39,13 @@ fn command_lines(rt: HostRuntime) -> Result<(), Fail> {
         ("leaf label=x isa=A64 insns", Err(3)),
         (
             "leaf label=x insns=i isa=A64",
-            Ok((
-                Verb::Leaf,
-                &[("label", "x"), ("insns", "i"), ("isa", "A64")],
-            )),
+            Ok(Request::Leaf {
+                release: Release {
+                    insns: "i",
+                    isa: "A64",
+                },
+                label: "x",
+            }),
         ),
     ];
     for (line, want) in table {
@@ -46,17 +53,9 @@ fn command_lines(rt: HostRuntime) -> Result<(), Fail> {
         for word in line.split_whitespace() {
             words.push(String::from_str(alloc, word)?)?;
         }
-        match (read_command(&words), want) {
-            (Ok(command), Ok((verb, pairs))) => {
-                assert_eq!(rt; command.verb(), verb, "{line}");
-                assert_eq!(rt; command.pairs().count(), pairs.len(), "{line}");
-                for (found, pair) in command.pairs().zip(pairs.iter()) {
-                    assert_eq!(rt; found, *pair, "{line}");
-                    assert_eq!(rt; command.value(pair.0), Some(pair.1), "{line}");
-                }
-                assert_eq!(rt; command.value("max"), None, "{line}");
-            }
-            (Err(bad), Err(place)) => assert_eq!(rt; bad.place, place, "{line}"),
+        match (read_request(&words), want) {
+            (Ok(asked), Ok(request)) => assert_eq!(rt; asked, request, "{line}"),
+            (Err(bad), Err(place)) => assert_eq!(rt; bad, BadWord { place }, "{line}"),
             (Ok(_), Err(_)) => assert!(rt; false, "accepts {line}"),
             (Err(_), Ok(_)) => assert!(rt; false, "refuses {line}"),
         }

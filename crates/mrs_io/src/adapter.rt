@@ -48,9 +48,7 @@ impl<W> WriterSink<W> {
 }
 
 impl<R: Read> Source for ReaderSource<R> {
-    ghost left = { λ s. R.remaining s.reader };
-
-    ghost faults = { λ s. s.faults };
+    ghost reading = { λ s. record { left = R.remaining s.reader; faults = s.faults } };
 
     fn read(&mut self, buf: &mut [u8]) -> Result<usize, Failed>
         ensures bound { ReadsAtMost result buf.new }
@@ -69,9 +67,7 @@ impl<R: Read> Source for ReaderSource<R> {
 }
 
 impl<W: Write> Sink for WriterSink<W> {
-    ghost taken = { λ s. W.contents s.writer };
-
-    ghost faults = { λ s. s.faults };
+    ghost writing = { λ s. record { taken = W.contents s.writer; faults = s.faults } };
 
     fn write(&mut self, bytes: &[u8]) -> Result<usize, Failed>
         ensures bound { WritesAtMost result bytes.now }

@@ -40,9 +40,7 @@ impl FileShelf {
 }
 
 impl Shelf for FileShelf {
-    ghost holds = { λ _. None };
-
-    ghost faults = { λ count. count };
+    ghost shelving = { λ count. record { documents = None; faults = count } };
 
     fn fetch(&mut self, alloc: Global, name: &str, limit: u64) -> Result<Vec<u8>, FetchFault>
         ensures answer { Fetched None name.now limit self.old self.new result }

@@ -39,9 +39,7 @@ impl MemShelf {
 }
 
 impl Shelf for MemShelf {
-    ghost holds = { λ s. Some s.docs };
-
-    ghost faults = { λ s. s.calls.count };
+    ghost shelving = { λ s. record { documents = Some s.docs; faults = s.calls.count } };
 
     fn fetch(&mut self, alloc: Global, name: &str, limit: u64) -> Result<Vec<u8>, FetchFault>
         ensures answer { Fetched (Some self.old.docs) name.now limit self.old.calls.count self.new.calls.count result }

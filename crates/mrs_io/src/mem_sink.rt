@@ -56,9 +56,7 @@ impl MemSink {
 }
 
 impl Sink for MemSink {
-    ghost taken = { λ s. Some s.taken };
-
-    ghost faults = { λ s. s.calls.count };
+    ghost writing = { λ s. record { taken = Some s.taken; faults = s.calls.count } };
 
     fn write(&mut self, bytes: &[u8]) -> Result<usize, Failed>
         ensures bound { WritesAtMost result bytes.now }

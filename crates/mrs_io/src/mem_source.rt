@@ -48,9 +48,7 @@ impl MemSource {
 }
 
 impl Source for MemSource {
-    ghost left = { λ s. Some s.left };
-
-    ghost faults = { λ s. s.calls.count };
+    ghost reading = { λ s. record { left = Some s.left; faults = s.calls.count } };
 
     fn read(&mut self, buf: &mut [u8]) -> Result<usize, Failed>
         ensures bound { ReadsAtMost result buf.new }

@@ -16,12 +16,12 @@ pub fn read_within<S: Source>(
     source: &mut S,
     limit: u64,
 ) -> Result<Vec<u8>, FetchFault>
-    ensures whole { IfOk result (λ v. Consumes (S.left source.old) (S.left source.new) v.items) }
-    ensures end { OnOk result (IsAtEnd (S.left source.new)) }
+    ensures whole { IfOk result (λ v. Consumes (S.reading source.old).left (S.reading source.new).left v.items) }
+    ensures end { OnOk result (IsAtEnd (S.reading source.new).left) }
     ensures within { IfOk result (λ v. length v.items ≤ limit) }
-    ensures longer { IsErrOf result FetchFault.TooLong → ConsumesMany (S.left source.old) (S.left source.new) (limit + 1) }
-    ensures failed { IsErrOf result FetchFault.Failed → Rose (S.faults source.old) (S.faults source.new) }
-    ensures later { S.faults source.old ≤ S.faults source.new }
+    ensures longer { IsErrOf result FetchFault.TooLong → ConsumesMany (S.reading source.old).left (S.reading source.new).left (limit + 1) }
+    ensures failed { IsErrOf result FetchFault.Failed → Rose (S.reading source.old).faults (S.reading source.new).faults }
+    ensures later { (S.reading source.old).faults ≤ (S.reading source.new).faults }
 {
     let mut piece = [0u8; PIECE];
     let mut bytes = Vec::new(alloc);

@@ -86,9 +86,7 @@ impl StderrSink {
 }
 
 impl Source for StdinSource {
-    ghost left = { λ _. None };
-
-    ghost faults = { λ count. count };
+    ghost reading = { λ count. record { left = None; faults = count } };
 
     fn read(&mut self, buf: &mut [u8]) -> Result<usize, Failed>
         ensures bound { ReadsAtMost result buf.new }
@@ -101,9 +99,7 @@ impl Source for StdinSource {
 }
 
 impl Sink for StdoutSink {
-    ghost taken = { λ _. None };
-
-    ghost faults = { λ count. count };
+    ghost writing = { λ count. record { taken = None; faults = count } };
 
     fn write(&mut self, bytes: &[u8]) -> Result<usize, Failed>
         ensures bound { WritesAtMost result bytes.now }
@@ -117,9 +113,7 @@ impl Sink for StdoutSink {
 }
 
 impl Sink for StderrSink {
-    ghost taken = { λ _. None };
-
-    ghost faults = { λ count. count };
+    ghost writing = { λ count. record { taken = None; faults = count } };
 
     fn write(&mut self, bytes: &[u8]) -> Result<usize, Failed>
         ensures bound { WritesAtMost result bytes.now }

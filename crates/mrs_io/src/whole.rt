@@ -10,9 +10,9 @@ use crate::{Failed, Sink, Source};
 /// Writes the whole piece, in as many calls as the sink takes for it. After `Failed` a first part of it went out.
 /// An empty piece makes no call.
 pub fn write_whole<K: Sink>(sink: &mut K, bytes: &[u8]) -> Result<(), Failed>
-    ensures whole { OnOk result (Appends (K.taken sink.old) (K.taken sink.new) bytes.now) }
-    ensures part { OnErr result (AppendsPart (K.taken sink.old) (K.taken sink.new) bytes.now) }
-    ensures cause { HasCause (K.faults sink.old) (K.faults sink.new) result }
+    ensures whole { OnOk result (Appends (K.writing sink.old).taken (K.writing sink.new).taken bytes.now) }
+    ensures part { OnErr result (AppendsPart (K.writing sink.old).taken (K.writing sink.new).taken bytes.now) }
+    ensures cause { HasCause (K.writing sink.old).faults (K.writing sink.new).faults result }
     ensures empty { length bytes.now ≡ 0 → IsOk result × (sink.new ≡ sink.old) }
 {
     let mut count = 0;
@@ -27,8 +27,8 @@ pub fn write_whole<K: Sink>(sink: &mut K, bytes: &[u8]) -> Result<(), Failed>
 fn write_part<K: Sink>(sink: &mut K, bytes: &[u8], count: usize) -> Result<usize, Failed>
     requires { count < length bytes.now }
     ensures bound { IfOk result (λ more. (0 < more) × (count + more ≤ length bytes.now)) }
-    ensures bytes { WriteAppends (K.taken sink.old) (K.taken sink.new) result (drop count bytes.now) }
-    ensures cause { HasCause (K.faults sink.old) (K.faults sink.new) result }
+    ensures bytes { WriteAppends (K.writing sink.old).taken (K.writing sink.new).taken result (drop count bytes.now) }
+    ensures cause { HasCause (K.writing sink.old).faults (K.writing sink.new).faults result }
 {
     sink.write(&bytes[count..])
 }
@@ -38,10 +38,10 @@ fn write_part<K: Sink>(sink: &mut K, bytes: &[u8], count: usize) -> Result<usize
 /// An empty buffer makes no call.
 pub fn fill<S: Source>(source: &mut S, buf: &mut [u8]) -> Result<usize, Failed>
     ensures bound { ReadsAtMost result buf.new }
-    ensures bytes { IfOk result (λ count. Consumes (S.left source.old) (S.left source.new) (take count buf.new)) }
-    ensures end { IfOk result (λ count. count < length buf.new → IsAtEnd (S.left source.new)) }
-    ensures part { OnErr result (ConsumesPart (S.left source.old) (S.left source.new) (length buf.new)) }
-    ensures cause { HasCause (S.faults source.old) (S.faults source.new) result }
+    ensures bytes { IfOk result (λ count. Consumes (S.reading source.old).left (S.reading source.new).left (take count buf.new)) }
+    ensures end { IfOk result (λ count. count < length buf.new → IsAtEnd (S.reading source.new).left) }
+    ensures part { OnErr result (ConsumesPart (S.reading source.old).left (S.reading source.new).left (length buf.new)) }
+    ensures cause { HasCause (S.reading source.old).faults (S.reading source.new).faults result }
     ensures empty { length buf.new ≡ 0 → IsOk result × (source.new ≡ source.old) }
 {
     let mut count = 0;
@@ -59,8 +59,8 @@ pub fn fill<S: Source>(source: &mut S, buf: &mut [u8]) -> Result<usize, Failed>
 fn read_part<S: Source>(source: &mut S, buf: &mut [u8], count: usize) -> Result<usize, Failed>
     requires { count ≤ length buf.old }
     ensures bound { IfOk result (λ more. count + more ≤ length buf.new) }
-    ensures bytes { ReadConsumes (S.left source.old) (S.left source.new) result (drop count buf.new) }
-    ensures cause { HasCause (S.faults source.old) (S.faults source.new) result }
+    ensures bytes { ReadConsumes (S.reading source.old).left (S.reading source.new).left result (drop count buf.new) }
+    ensures cause { HasCause (S.reading source.old).faults (S.reading source.new).faults result }
     ensures front { take count buf.new ≡ take count buf.old }
 {
     source.read(&mut buf[count..])

@@ -8,7 +8,7 @@ use Rattle.std.proofs.lemmas.List.{map-append}
 use Rattle.std.proofs.lemmas.Bool.{cases_lt}
 use Rattle.std.proofs.lemmas.Slice.Eq.{bytes_eq-Decides}
 use Rattle.mrs_names.proofs.ListLaws.{slice_get-append, slice_get-append_end}
-use Rattle.mrs_names.specs.Texts.{place_of, with_name, AreDistinct, AreNames, IsExtended}
+use Rattle.mrs_names.specs.Texts.{name_limit, place_of, with_name, AreDistinct, AreNames, IsExtended}
 
 bytes_eq-same : (text : List ℕ) → bytes_eq text text ≡ true
 bytes_eq-same text = (bytes_eq-Decides text text).1 refl
@@ -152,7 +152,7 @@ AreDistinct-push text names new distinct k name at = go (cases_lt k (length name
         let same : text ≡ name = let there = slice_get-append_end names text [] in let e = ap (λ i. slice_get (names ++ text ∷ []) i) last in cc in
         subst (λ (t : List ℕ). place_of t (names ++ text ∷ []) ≡ Some k) same (place_of-new text names new ∙ ap Some (sym last))
 
-pub AreNames-new : (text : List ℕ) (names : List (List ℕ)) → place_of text names ≡ None → length names < 4194304 → AreNames names → AreNames (names ++ text ∷ [])
+pub AreNames-new : (text : List ℕ) (names : List (List ℕ)) → place_of text names ≡ None → length names < name_limit → AreNames names → AreNames (names ++ text ∷ [])
 AreNames-new text names new room held = record { few = omega (arith, length-append names (text ∷ [])); distinct = AreDistinct-push text names new held.distinct }
 
 -- what `intern` takes

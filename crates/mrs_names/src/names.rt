@@ -60,6 +60,7 @@ impl Names {
         ensures place { IfOk result (λ id. place_of text.now self.new ≡ Some id.0) }
         ensures names { OnOk result (self.new ≡ with_name text.now self.old) }
         ensures kept { IsExtended self.old self.new }
+        ensures held { AreNames self.new }
         ensures room { OnOk result (is_refused text.now self.old ≡ false) }
 
         ensures full { result ≡ Err NameFault.Full → is_refused text.now self.old ≡ true }

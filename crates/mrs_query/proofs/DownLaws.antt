@@ -7,7 +7,7 @@ use Rattle.std.proofs.lemmas.Grind.{flat_map-append, reverse_onto}
 use Rattle.mrs_arena.specs.Flat.{FlatNode}
 use Rattle.mrs_arena.specs.Nodes.{parents_of}
 use Rattle.mrs_arena.specs.Paths.{path_up}
-use Rattle.mrs_arena.specs.Placed.{text_of, own_of, no_own, own_at}
+use Rattle.mrs_arena.specs.Placed.{text_of, own_of_flat, no_own, own_at}
 use Rattle.mrs_arena.proofs.PathLaws.{ancestors-step}
 use Rattle.mrs_arena.proofs.NodeLaws.{length-parents_of}
 use Rattle.mrs_query.specs.Down.{names_down}
@@ -46,7 +46,7 @@ names_down-step names nodes n node at before =
     ∙ one_more names nodes n (path_up (parents_of nodes) (get_or (parents_of nodes) n None))
     ∙ ap (λ o. names_along names nodes (path_up (parents_of nodes) o) ++ name_in names nodes n) parent
     ∙ ap (λ front. front ++ name_in names nodes n) (above names nodes node.parent)
-    ∙ ap (λ own. names_to names nodes node.parent ++ 32 ∷ own.name) (get_or-mapped (own_of names) nodes n node no_own at)
+    ∙ ap (λ own. names_to names nodes node.parent ++ 32 ∷ own.name) (get_or-mapped (own_of_flat names) nodes n node no_own at)
 
 -- a space and a name behind the names above
 pub name_pushed : (out middle spaced done bytes text to whole : List ℕ) → done ≡ spaced ++ bytes → spaced ≡ middle ++ 32 ∷ [] → middle ≡ out ++ to → bytes ≡ text → whole ≡ to ++ 32 ∷ text → done ≡ out ++ whole

@@ -5,7 +5,7 @@ use Rattle.std.specs.Str.{is_utf8}
 use Rattle.std.proofs.lemmas.Str.{is_utf8-from_IsUtf8, IsUtf8-from_is_utf8}
 use Rattle.serde_json.specs.Data.{Data}
 use Rattle.serde_json.specs.Read.{read}
-use Rattle.spec_run.specs.Outcome.{json_in}
+use Rattle.spec_run.specs.Opening.{json_in}
 
 pub json_in-utf8 : (bytes : List ℕ) (d : Option Data) → IsUtf8 bytes → read bytes ≡ d → json_in bytes ≡ d
 json_in-utf8 bytes d utf8 reads = rw (is_utf8-from_IsUtf8 bytes utf8) reads

@@ -5,3 +5,4 @@ pub mod TextParts
 pub mod Performing
 pub mod DownLaws
 pub mod BitLaws
+pub mod HexSteps

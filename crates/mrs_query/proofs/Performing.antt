@@ -1,56 +1,92 @@
--- A run whose document was accepted does what becomes of the command.
-use Rattle.std.proofs.Common.{◌≡◌, ℕ, List, Option, IfSome, Ok, inr, refl, subst, sym, arith}
-use Rattle.spec_io.specs.Documents.{Document}
-use Rattle.spec_instructions.specs.Tree.{Own}
-use Rattle.spec_command.specs.Verb.{Verb, ListWords, Leaf}
-use Rattle.spec_command.specs.Command.{Command, command}
-use Rattle.spec_run.specs.Request.{insns_of, isa_of, label_of}
-use Rattle.spec_run.specs.Outcome.{End, Done, Ragged, Usage, Document as Refused, Question, ReadFault, WriteFault, Limit, NoMemory, Insns, Input, opened}
-use Rattle.spec_run.specs.Scene.{Scene, Reading, Writing}
-use Rattle.spec_run.specs.Answers.{Means, Follows, CommandDecides, Performs}
-use Rattle.mrs_query.specs.Opened.{Fetches}
-use Rattle.mrs_query.specs.Ended.{CommandEnds}
+-- From what became of what is asked for to what the run did.
+use Rattle.std.proofs.Common.{◌≡◌, ◌≤◌, ℕ, List, Ok, Err, inl, inr, ap, subst, arith}
+use Rattle.spec_io.specs.States.{Reading, Writing}
+use Rattle.spec_command.specs.Commands.{Request}
+use Rattle.spec_command.specs.Request.{request}
+use Rattle.spec_run.specs.End.{End, Done, Ragged, Usage, Document as Refused, Question, ReadFault, WriteFault, Limit, NoMemory, Insns, Input, IsUsage}
+use Rattle.spec_run.specs.Work.{Work}
+use Rattle.spec_run.specs.Commands.{Needs, opened, work_of}
+use Rattle.spec_run.specs.Ran.{Ran}
+use Rattle.spec_run.specs.Scene.{Scene, Kept}
+use Rattle.spec_run.specs.Answers.{Untouched, WorkDecides, Means, Asked, Says, Performs}
+use Rattle.mrs_query.specs.Opened.{Opens, ending}
+use Rattle.mrs_query.specs.Fulfilled.{Fulfils}
+use Rattle.mrs_query.specs.End.{end_of}
+use Rattle.mrs_query.specs.declared.status.Status.{Status}
+use Rattle.mrs_query.specs.declared.opening_error.OpeningError.{OpeningError}
+use Rattle.mrs_query.specs.declared.opening_error.OpeningError.TheVariants as error
+use Rattle.mrs_query.specs.declared.status.Which.TheVariants as which
 
-module _ (words : List (List ℕ)) (asked : Command) (docs : Option (List Document)) (shelf shelf_after : ℕ) (paths : List (List Own)) (input input_after : Reading) (out out_after : Writing)
-    (says : command words ≡ Ok asked) (same : shelf_after ≡ shelf) (accepted : IfSome docs (λ all. opened asked all ≡ Ok paths)) where
-  abbrev scene : Scene
-  scene = record { words = words; documents = docs; documents_after = docs; shelf_faults = shelf; shelf_faults_after = shelf_after; input = input; input_after = input_after; out = out; out_after = out_after }
+module _ (s : Scene) (asked : Request) where
+  -- ---- what a command ensures of what is asked for
 
-  abbrev Ends : Verb → End → Type 0
-  Ends verb end = Follows verb (label_of asked) paths input input_after out out_after end
+  -- it is opened, and the command's work ends so
+  pub work_done : (found : Needs asked) (status : Status) → Opens (opened asked) s.shelf s.shelf_after (Ok found) → s.shelf_after.documents ≡ s.shelf.documents
+      → Ran s.input s.input_after s.out s.out_after (work_of asked found) (end_of status) → Fulfils asked s (Ok status)
+  work_done found status opens same ran = (
+    record { found = found; gives = opens.0; shelf = opens.1; ran = ran },
+    record { documents = same; shelf = omega (arith, opens.1); input = ran.input_count; out = ran.out_count },
+  )
 
-  decides : (end : End) → Ends asked.verb end → CommandDecides scene end
-  decides end h = record { asked = asked; paths = paths; says = says; accepted = accepted; shelf = same; follows = h }
+  -- it is not opened
+  pub not_opened : (e : OpeningError) → Opens (opened asked) s.shelf s.shelf_after (Err e) → s.shelf_after.documents ≡ s.shelf.documents → s.shelf.faults ≤ s.shelf_after.faults → Untouched s → Fulfils asked s (Err e)
+  not_opened e opens same later still = (opens, still, record { documents = same; shelf = later; input = omega (arith, ap (λ r. r.faults) still.input); out = omega (arith, still.count) })
 
-  -- what neither command ends in
-  never : (verb : Verb) (end : End) → (Ends ListWords end → ⊥) → (Ends Leaf end → ⊥) → Ends verb end → ⊥
-  never ListWords end list leaf h = list h
-  never Leaf end list leaf h = leaf h
+  -- ---- what a status says then
 
-  means : (end : End) → Ends asked.verb end → Means end scene
-  means Done h = decides Done h
-  means (Ragged rest) h = decides (Ragged rest) h
-  means (Question fault) h = decides (Question fault) h
-  means (Limit Input) h = decides (Limit Input) h
-  means (Limit Insns) h = absurd (never asked.verb (Limit Insns) (λ bad. bad) (λ bad. bad.1) h)
-  means (ReadFault Input) h = decides (ReadFault Input) h
-  means (ReadFault Insns) h = absurd (never asked.verb (ReadFault Insns) (λ bad. bad) (λ bad. bad.1) h)
-  means WriteFault h = decides WriteFault h
-  means NoMemory h = record { asked = asked; says = says; shelf = same; reached = inr (decides NoMemory h) }
-  means (Usage place) h = absurd (never asked.verb (Usage place) (λ bad. bad) (λ bad. bad.1) h)
-  means (Refused which fault) h = absurd (never asked.verb (Refused which fault) (λ bad. bad) (λ bad. bad.1) h)
+  -- the command's work decided
+  by_work : (end : End) → WorkDecides s asked end → Means s asked end
+  by_work Done h = h
+  by_work (Ragged rest) h = h
+  by_work (Question fault) h = h
+  by_work (Limit Input) h = h
+  by_work (Limit Insns) h = absurd h.ran.meaning
+  by_work (ReadFault Input) h = h
+  by_work (ReadFault Insns) h = absurd h.ran.meaning
+  by_work WriteFault h = h
+  by_work NoMemory h = record { shelf = h.shelf; reached = inr h }
+  by_work (Usage place) h = absurd h.ran.meaning
+  by_work (Refused which fault) h = absurd h.ran.meaning
 
-  performs : (end : End) → CommandEnds asked paths input input_after out out_after end → Performs end scene
-  performs end h = record {
-    meaning = means end h.meaning;
-    reading = h.reading;
-    kept = record { documents = refl; shelf = omega (arith, same); input = h.input_count; out = h.out_count };
-  }
+  -- nothing was opened
+  by_opening : (e : OpeningError) → Opens (opened asked) s.shelf s.shelf_after (Err e) → Untouched s → Means s asked (ending e)
+  by_opening (error.NotRead which.Insns) opens still = record { cause = opens; untouched = still }
+  by_opening (error.NotRead which.Input) opens still = absurd opens.0
+  by_opening (error.TooLong which.Insns) opens still = record { cause = opens; untouched = still }
+  by_opening (error.TooLong which.Input) opens still = absurd opens.0
+  by_opening (error.Refused which fault) opens still = record { cause = opens; untouched = still }
+  by_opening error.NoMemory opens still = record { shelf = opens; reached = inl still }
 
--- the document was fetched and accepted
-pub performs_command : (words : List (List ℕ)) (asked : Command) (docs docs_after : Option (List Document)) (shelf shelf_after : ℕ) (input input_after : Reading) (out out_after : Writing) (end : End) (paths : List (List Own))
-    → command words ≡ Ok asked → docs_after ≡ docs → Fetches docs (insns_of asked) (isa_of asked) shelf shelf_after (Ok paths) → CommandEnds asked paths input input_after out out_after end
-    → Performs end (record { words = words; documents = docs; documents_after = docs_after; shelf_faults = shelf; shelf_faults_after = shelf_after; input = input; input_after = input_after; out = out; out_after = out_after })
-performs_command words asked docs docs_after shelf shelf_after input input_after out out_after end paths says same h ends =
-    let done = performs words asked docs shelf shelf_after paths input input_after out out_after says h.0 h.1 end ends in
-    subst (λ d. Performs end (record { words = words; documents = docs; documents_after = d; shelf_faults = shelf; shelf_faults_after = shelf_after; input = input; input_after = input_after; out = out; out_after = out_after })) (sym same) done
+module _ (words : List (List ℕ)) (s : Scene) (asked : Request) (says : request words ≡ Ok asked) where
+  -- a status says this of words that ask for something
+  asked_says : (end : End) → Means s asked end → Says words s end
+  asked_says Done h = record { asked = asked; says = says; means = h }
+  asked_says (Ragged rest) h = record { asked = asked; says = says; means = h }
+  asked_says (Usage place) h = absurd h
+  asked_says (Refused which fault) h = record { asked = asked; says = says; means = h }
+  asked_says (Question fault) h = record { asked = asked; says = says; means = h }
+  asked_says (ReadFault which) h = record { asked = asked; says = says; means = h }
+  asked_says WriteFault h = record { asked = asked; says = says; means = h }
+  asked_says (Limit which) h = record { asked = asked; says = says; means = h }
+  asked_says NoMemory h = record { asked = asked; says = says; means = h }
+
+  pub performs_work : (status : Status) → Fulfils asked s (Ok status) → Performs words s (end_of status)
+  performs_work status h = record { says = asked_says (end_of status) (by_work s asked (end_of status) h.0); kept = h.1 }
+
+  pub performs_opening : (e : OpeningError) (status : Status) → end_of status ≡ ending e → Fulfils asked s (Err e) → Performs words s (end_of status)
+  performs_opening e status is h = record { says = rw is (asked_says (ending e) (by_opening s asked e h.0 h.1)); kept = h.2 }
+
+  -- it does not end as refused words do
+  pub never_usage : (status : Status) → Fulfils asked s (Ok status) → IsUsage (end_of status) → ⊥
+  never_usage status h usage = usage_means (end_of status) (by_work s asked (end_of status) h.0) usage
+    where
+      usage_means : (end : End) → Means s asked end → IsUsage end → ⊥
+      usage_means Done m usage = usage
+      usage_means (Ragged rest) m usage = usage
+      usage_means (Usage place) m usage = m
+      usage_means (Refused which fault) m usage = usage
+      usage_means (Question fault) m usage = usage
+      usage_means (ReadFault which) m usage = usage
+      usage_means WriteFault m usage = usage
+      usage_means (Limit which) m usage = usage
+      usage_means NoMemory m usage = usage

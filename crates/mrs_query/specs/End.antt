@@ -1,5 +1,5 @@
 -- What the statuses of the code stand for.
-use Rattle.spec_run.specs.Outcome as run
+use Rattle.spec_run.specs.End as run
 use Rattle.mrs_query.specs.declared.status.Which.{Which}
 use Rattle.mrs_query.specs.declared.status.Which.TheVariants as which
 use Rattle.mrs_schema.specs.Faults as schema

@@ -1,6 +1,8 @@
 pub mod End
 pub mod Ended
 pub mod Opened
+pub mod Fulfilled
+pub mod Leaves
 pub mod Down
 pub mod Pieces
 pub mod Texts

@@ -1,40 +1,42 @@
--- What the document gives: its paths, or the status that it decides.
-use Rattle.std.specs.Prelude.{◌≡◌, ◌⊎◌, ℕ, List, Option, Some, None, Result, Ok, Err, IfSome, IsSomeAnd, ⊤}
-use Rattle.spec_io.specs.Faults.{Rose}
-use Rattle.spec_io.specs.Documents.{Document, document_of}
-use Rattle.spec_instructions.specs.Tree.{Own}
-use Rattle.spec_run.specs.Outcome as run
-use Rattle.mrs_query.specs.declared.status.Status.{Status}
-use Rattle.mrs_query.specs.declared.status.Status.TheVariants as status
-use Rattle.mrs_query.specs.declared.status.Which.TheVariants as which
+-- What an opening of the code answers: what was opened, or why nothing is. Want of memory is the one free answer.
+use Rattle.std.specs.Prelude.{◌≡◌, ℕ, List, Option, Some, None, Result, Ok, Err, ⊤}
+use Rattle.spec_io.specs.Documents.{Document}
+use Rattle.spec_io.specs.States.{Shelving}
 use Rattle.serde_json.specs.Data.{Data}
 use Rattle.serde_json.specs.View.{view}
 use Rattle.serde_json.specs.declared.value.Value.{Value}
-use Rattle.mrs_query.specs.End.{end_of, which_of, fault_of}
+use Rattle.spec_run.specs.End as run
+use Rattle.spec_run.specs.Opening as opening
+use Rattle.spec_run.specs.Opens.{ShelfStill, Gives, Fails}
+use Rattle.mrs_query.specs.declared.opening.Unread.{Unread}
+use Rattle.mrs_query.specs.declared.opening.Unread.TheVariants as unread
+use Rattle.mrs_query.specs.declared.opening_error.OpeningError.{OpeningError}
+use Rattle.mrs_query.specs.declared.opening_error.OpeningError.TheVariants as error
+use Rattle.mrs_query.specs.End.{which_of, fault_of}
 
--- the JSON value that a text is read as, unless memory ran out
-abbrev pub Parsed : Option Data → Result Value Status → Type 0
+-- the JSON value that a text is read as
+abbrev pub Parsed : Option Data → Result Value Unread → Type 0
 Parsed value (Ok v) = value ≡ Some (view v)
-Parsed value (Err status.NoMemory) = ⊤
-Parsed value (Err (status.Document which fault)) = (value ≡ None) × (which_of which ≡ run.Insns) × (fault_of fault ≡ run.Json)
-Parsed value (Err end) = ⊥
+Parsed value (Err (unread.Refused fault)) = (value ≡ None) × (fault_of fault ≡ run.Json)
+Parsed value (Err unread.NoMemory) = ⊤
 
--- the paths that a JSON value gives, or the status that it decides, unless memory ran out
-abbrev pub Read : List ℕ → Option Data → Result (List (List Own)) Status → Type 0
-Read isa value (Ok paths) = run.of_value isa value ≡ Ok paths
-Read isa value (Err status.NoMemory) = ⊤
-Read isa value (Err end) = run.of_value isa value ≡ Err (end_of end)
+-- the set that a JSON value gives
+abbrev pub Read : List ℕ → Option Data → Result opening.Opened Unread → Type 0
+Read isa value (Ok opened) = opening.of_value isa value ≡ Ok opened
+Read isa value (Err (unread.Refused fault)) = opening.of_value isa value ≡ Err (opening.Refused run.Insns (fault_of fault))
+Read isa value (Err unread.NoMemory) = ⊤
 
--- the same of the document of that name, which is fetched first
-module _ (told : Option (List Document)) (name isa : List ℕ) where
-  -- a shelf that tells its documents has one of the name, of which this becomes
-  abbrev pub Gives : Result (List (List Own)) run.End → Type 0
-  Gives end = IfSome told (λ docs. run.of_document isa (document_of name docs) ≡ end)
+-- what is made of the documents
+abbrev pub Opens : {A : Type 0} → (List Document → Result A opening.OpeningError) → Shelving → Shelving → Result A OpeningError → Type 0
+Opens given shelf shelf_after (Ok found) = Gives given shelf shelf_after (Ok found) × ShelfStill shelf shelf_after
+Opens given shelf shelf_after (Err (error.NotRead which)) = Fails given shelf shelf_after (opening.NotRead (which_of which))
+Opens given shelf shelf_after (Err (error.TooLong which)) = Fails given shelf shelf_after (opening.TooLong (which_of which))
+Opens given shelf shelf_after (Err (error.Refused which fault)) = Fails given shelf shelf_after (opening.Refused (which_of which) (fault_of fault))
+Opens given shelf shelf_after (Err error.NoMemory) = ShelfStill shelf shelf_after
 
-  abbrev pub Fetches : ℕ → ℕ → Result (List (List Own)) Status → Type 0
-  Fetches before after (Ok paths) = (after ≡ before) × Gives (Ok paths)
-  Fetches before after (Err status.NoMemory) = after ≡ before
-  Fetches before after (Err (status.ReadFault which.Insns)) = Rose before after ⊎ IsSomeAnd told (λ docs. document_of name docs ≡ None)
-  Fetches before after (Err (status.Document which.Insns fault)) = (after ≡ before) × Gives (Err (run.Document run.Insns (fault_of fault)))
-  Fetches before after (Err (status.Limit which.Insns)) = (after ≡ before) × Gives (Err (run.Limit run.Insns))
-  Fetches before after (Err end) = ⊥
+-- how the run ends where nothing is opened
+abbrev pub ending : OpeningError → run.End
+ending (error.NotRead which) = opening.end_by (opening.NotRead (which_of which))
+ending (error.TooLong which) = opening.end_by (opening.TooLong (which_of which))
+ending (error.Refused which fault) = opening.end_by (opening.Refused (which_of which) (fault_of fault))
+ending error.NoMemory = run.NoMemory

@@ -1,16 +1,21 @@
 //! Hexadecimal numbers.
-ghost use Rattle.std.specs.Prelude.{◌≡◌, ◌++◌, ◌<◌, ◌&&◌, nat_lt, nat_le, false, OnOk};
+ghost use Rattle.std.specs.Prelude.{◌≡◌, ◌++◌, ◌%◌, ◌≤◌, ◌&&◌, nat_lt, nat_le, false, length, drop, OnOk};
 ghost use Rattle.std.specs.Fmt.{digit_glyph};
 ghost use Rattle.spec_lines.specs.Hex.{hex};
 
 use std::alloc::AllocError;
 
-/// The hexadecimal digit of a number below 16, in lower case.
-fn hex_digit(n: u8) -> u8
-    requires { n < 16 }
-    ensures { result ≡ digit_glyph false n }
+/// The digits, in lower case.
+const DIGITS: [u8; 16] = *b"0123456789abcdef";
+
+/// How many digits a number of 64 bits has at most.
+const MOST: usize = 16;
+
+/// The last digit of a number.
+fn last_digit(n: u64) -> u8
+    ensures { result ≡ digit_glyph false (n % 16) }
 {
-    if n < 10 { b'0' + n } else { b'a' + (n - 10) }
+    DIGITS[(n % 16) as usize]
 }
 
 /// Whether a number that is to have `width` digits is written as one digit.
@@ -20,16 +25,34 @@ fn is_one_digit(n: u64, width: u8) -> bool
     n < 16 && width <= 1
 }
 
-/// Appends a number in hexadecimal, with zeros in front up to `width` digits.
-#[tactic(auto, using(spec_lines::proofs::Digits::hex_one, spec_lines::proofs::Digits::hex_more))]
+/// Writes the digits of a number to the end of a text, from the last one on, and answers the place of the first.
+fn write_hex(text: &mut [u8], n: u64, width: u8) -> usize
+    requires room { length text.old ≡ 16 }
+    requires width { width ≤ 16 }
+    ensures within { result ≤ 16 }
+    ensures digits { drop result text.new ≡ hex width n }
+{
+    let mut start = MOST;
+    let mut rest = n;
+    let mut left = width;
+    while !is_one_digit(rest, left) {
+        start -= 1;
+        text[start] = last_digit(rest);
+        rest /= 16;
+        left = left.saturating_sub(1);
+    }
+    start -= 1;
+    text[start] = last_digit(rest);
+    start
+}
+
+/// Appends a number in hexadecimal, with zeros in front up to `width` digits. It takes room once.
 pub(crate) fn push_hex(out: &mut Vec<u8>, n: u64, width: u8) -> Result<(), AllocError>
+    requires { width ≤ 16 }
     ensures { OnOk result (out.new.items ≡ out.old.items ++ hex width n) }
 {
-    if is_one_digit(n, width) {
-        out.push(hex_digit((n % 16) as u8))?;
-        return Ok(());
-    }
-    push_hex(out, n / 16, width.saturating_sub(1))?;
-    out.push(hex_digit((n % 16) as u8))?;
+    let mut text = [0u8; MOST];
+    let start = write_hex(&mut text, n, width);
+    out.extend_from_slice(&text[start..])?;
     Ok(())
 }

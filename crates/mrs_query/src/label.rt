@@ -3,8 +3,8 @@ ghost use Rattle.std.specs.Prelude.{◌≡◌, ◌++◌, ◌<◌, length, OnOk};
 ghost use Rattle.spec_instructions.specs.Paths.{label};
 ghost use Rattle.insn_tree.specs.Trees.{label_text};
 
-use crate::release::Release;
-use insn_tree::LabelRef;
+use crate::opened::Opened;
+use insn_tree::{LabelRef, LeafId};
 use itoa::Buffer;
 use std::alloc::AllocError;
 
@@ -20,10 +20,10 @@ fn push_label_ref(out: &mut Vec<u8>, of: LabelRef<'_>) -> Result<(), AllocError>
     Ok(())
 }
 
-/// Appends the label of leaf `k`.
-pub(crate) fn push_label(out: &mut Vec<u8>, release: &Release, k: u32) -> Result<(), AllocError>
-    requires { k < length release.now }
-    ensures { OnOk result (out.new.items ≡ out.old.items ++ label release.now k) }
+/// Appends the label of a leaf.
+pub(crate) fn push_label(out: &mut Vec<u8>, opened: &Opened, leaf: LeafId) -> Result<(), AllocError>
+    requires { leaf.0 < length opened.now.paths }
+    ensures { OnOk result (out.new.items ≡ out.old.items ++ label opened.now.paths leaf.0) }
 {
-    push_label_ref(out, release.label(k))
+    push_label_ref(out, opened.label(leaf))
 }

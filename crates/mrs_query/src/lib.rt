@@ -1,23 +1,19 @@
 //! The top call: one function does all that the program does, over objects that stand for the outside.
 #![tactic(auto)]
 
-mod document;
+mod commands;
 mod hex;
 mod label;
-mod leaf;
 mod line;
 mod lister;
 mod matches;
 mod message;
+mod opened;
+mod opening;
+mod opening_error;
 mod parts;
-mod release;
-mod request;
 mod status;
-mod stream;
 mod top;
 
 pub use status::{DocFault, QuestionFault, Status, Which};
 pub use top::run;
-
-#[cfg(test)]
-mod tests;

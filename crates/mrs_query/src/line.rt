@@ -1,39 +1,41 @@
 //! The line of a word.
 ghost use Rattle.std.specs.Prelude.{◌≡◌, ◌+◌, ◌++◌, ◌<◌, [], length, OnOk, All, flat_map};
 ghost use Rattle.spec_lines.specs.Line.{line, verdicts, candidate};
+ghost use Rattle.mrs_query.specs.Leaves.{numbers};
 
 use crate::hex::push_hex;
 use crate::label::push_label;
 use crate::matches::find_leaves;
-use crate::release::Release;
+use crate::opened::Opened;
+use insn_tree::LeafId;
 use std::alloc::AllocError;
 
 /// Appends one of several leaves.
-fn push_candidate(out: &mut Vec<u8>, release: &Release, k: u32) -> Result<(), AllocError>
-    requires { k < length release.now }
-    ensures { OnOk result (out.new.items ≡ out.old.items ++ candidate release.now k) }
+fn push_candidate(out: &mut Vec<u8>, opened: &Opened, leaf: LeafId) -> Result<(), AllocError>
+    requires { leaf.0 < length opened.now.paths }
+    ensures { OnOk result (out.new.items ≡ out.old.items ++ candidate opened.now.paths leaf.0) }
 {
     out.push(b' ')?;
-    push_label(out, release, k)?;
+    push_label(out, opened, leaf)?;
     out.extend_from_slice(b" yes")?;
     Ok(())
 }
 
 /// Appends several leaves.
-fn push_candidates(out: &mut Vec<u8>, release: &Release, leaves: &[u32]) -> Result<(), AllocError>
-    requires { All (λ k. k < length release.now) leaves.now }
-    ensures { OnOk result (out.new.items ≡ out.old.items ++ flat_map (candidate release.now) leaves.now) }
+fn push_candidates(out: &mut Vec<u8>, opened: &Opened, leaves: &[LeafId]) -> Result<(), AllocError>
+    requires { All (λ leaf. leaf.0 < length opened.now.paths) leaves.now }
+    ensures { OnOk result (out.new.items ≡ out.old.items ++ flat_map (candidate opened.now.paths) (numbers leaves.now)) }
 {
-    for k in leaves {
-        push_candidate(out, release, *k)?;
+    for leaf in leaves {
+        push_candidate(out, opened, *leaf)?;
     }
     Ok(())
 }
 
 /// Appends what a word is: no leaf, one, or several.
-fn push_verdicts(out: &mut Vec<u8>, release: &Release, leaves: &[u32]) -> Result<(), AllocError>
-    requires { All (λ k. k < length release.now) leaves.now }
-    ensures { OnOk result (out.new.items ≡ out.old.items ++ verdicts release.now leaves.now) }
+fn push_verdicts(out: &mut Vec<u8>, opened: &Opened, leaves: &[LeafId]) -> Result<(), AllocError>
+    requires { All (λ leaf. leaf.0 < length opened.now.paths) leaves.now }
+    ensures { OnOk result (out.new.items ≡ out.old.items ++ verdicts opened.now.paths (numbers leaves.now)) }
 {
     match leaves {
         [] => {
@@ -42,11 +44,11 @@ fn push_verdicts(out: &mut Vec<u8>, release: &Release, leaves: &[u32]) -> Result
         }
         [only] => {
             out.extend_from_slice(b"one ")?;
-            push_label(out, release, *only)
+            push_label(out, opened, *only)
         }
         _ => {
             out.extend_from_slice(b"many")?;
-            push_candidates(out, release, leaves)
+            push_candidates(out, opened, leaves)
         }
     }
 }
@@ -54,19 +56,19 @@ fn push_verdicts(out: &mut Vec<u8>, release: &Release, leaves: &[u32]) -> Result
 /// Appends the line of a word at an offset of the stream. `leaves` is room that is used anew.
 pub(crate) fn push_line(
     out: &mut Vec<u8>,
-    release: &Release,
-    leaves: &mut Vec<u32>,
+    opened: &Opened,
+    leaves: &mut Vec<LeafId>,
     offset: u64,
     word: u32,
 ) -> Result<(), AllocError>
-    ensures { OnOk result (out.new.items ≡ out.old.items ++ line release.now offset word) }
+    ensures { OnOk result (out.new.items ≡ out.old.items ++ line opened.now.paths offset word) }
 {
     push_hex(out, offset, 8)?;
     out.push(b' ')?;
     push_hex(out, u64::from(word), 8)?;
     out.push(b' ')?;
-    find_leaves(release, word, leaves)?;
-    push_verdicts(out, release, leaves)?;
+    find_leaves(opened, word, leaves)?;
+    push_verdicts(out, opened, leaves)?;
     out.push(b'\n')?;
     Ok(())
 }

@@ -4,27 +4,28 @@ ghost use Rattle.spec_lines.specs.Listing.{words_in, listing, rest_line};
 
 use crate::hex::push_hex;
 use crate::line::push_line;
-use crate::release::Release;
+use crate::opened::Opened;
+use insn_tree::LeafId;
 use std::alloc::AllocError;
 
 /// Appends the lines of the whole words of a piece that stands at an offset of the stream. `leaves` is room that is
 /// used anew.
 pub(crate) fn push_lines(
     out: &mut Vec<u8>,
-    release: &Release,
-    leaves: &mut Vec<u32>,
+    opened: &Opened,
+    leaves: &mut Vec<LeafId>,
     offset: u64,
     piece: &[u8],
 ) -> Result<(), AllocError>
     requires { offset + length piece.now < 2 ^ 64 }
-    ensures { OnOk result (out.new.items ≡ out.old.items ++ listing release.now offset (words_in piece.now)) }
+    ensures { OnOk result (out.new.items ≡ out.old.items ++ listing opened.now.paths offset (words_in piece.now)) }
 {
     let mut at = offset;
     let mut rest = piece;
     while let [a, b, c, d, after @ ..] = rest {
         push_line(
             out,
-            release,
+            opened,
             leaves,
             at,
             u32::from_le_bytes([*a, *b, *c, *d]),

@@ -1,7 +1,7 @@
 //! The text of a status, for the sink of messages.
 ghost use Rattle.std.specs.Prelude.{◌≡◌, ◌≤◌, [], ◌∷◌, ◌++◌, map, codes};
-ghost use Rattle.spec_run.specs.Outcome as run;
-ghost use Rattle.spec_run.specs.Outcome.{message, why_text};
+ghost use Rattle.spec_run.specs.End as run;
+ghost use Rattle.spec_run.specs.End.{message, why_text};
 ghost use Rattle.spec_run.specs.Scene.{TookText};
 ghost use Rattle.mrs_schema.specs.Faults as schema;
 ghost use Rattle.mrs_query.specs.End.{end_of, which_of, question_of};
@@ -63,7 +63,7 @@ fn missing_member(why: &Why) -> &[u8]
 
 /// Writes the text of refused words.
 fn write_usage<E: Sink>(err: &mut E, place: u64) -> Result<(), Failed>
-    ensures { Wrote (E.taken err.old) (E.taken err.new) (E.faults err.old) (E.faults err.new) (message (run.Usage place)) result }
+    ensures { Wrote (E.writing err.old) (E.writing err.new) (message (run.Usage place)) result }
 {
     write_parts(
         err,
@@ -77,7 +77,7 @@ fn write_usage<E: Sink>(err: &mut E, place: u64) -> Result<(), Failed>
 
 /// Writes the text of a document without a JSON reading.
 fn write_no_json<E: Sink>(err: &mut E, which: Which) -> Result<(), Failed>
-    ensures { Wrote (E.taken err.old) (E.taken err.new) (E.faults err.old) (E.faults err.new) (message (run.Document (which_of which) run.Json)) result }
+    ensures { Wrote (E.writing err.old) (E.writing err.new) (message (run.Document (which_of which) run.Json)) result }
 {
     write_parts(
         err,
@@ -112,7 +112,7 @@ fn fault_parts<'a>(
 
 /// Writes the text of a document's first fault: the reason, and the JSON Pointer of its place.
 fn write_fault<E: Sink>(err: &mut E, which: Which, fault: &SchemaFault) -> Result<(), Failed>
-    ensures { Wrote (E.taken err.old) (E.taken err.new) (E.faults err.old) (E.faults err.new) (message (run.Document (which_of which) (run.Schema (schema.fault_of fault.now)))) result }
+    ensures { Wrote (E.writing err.old) (E.writing err.new) (message (run.Document (which_of which) (run.Schema (schema.fault_of fault.now)))) result }
 {
     let parts = fault_parts(
         which_text(which),
@@ -125,14 +125,14 @@ fn write_fault<E: Sink>(err: &mut E, which: Which, fault: &SchemaFault) -> Resul
 
 /// Writes a word, what it is about, and the end of the line.
 fn write_two<E: Sink>(err: &mut E, first: &[u8], second: &[u8]) -> Result<(), Failed>
-    ensures { Wrote (E.taken err.old) (E.taken err.new) (E.faults err.old) (E.faults err.new) (first.now ++ (second.now ++ 10 ∷ [])) result }
+    ensures { Wrote (E.writing err.old) (E.writing err.new) (first.now ++ (second.now ++ 10 ∷ [])) result }
 {
     write_parts(err, &[first, second, b"\n".as_slice()])
 }
 
 /// Writes the text of a status that has one.
 fn write_message<E: Sink>(err: &mut E, status: &Status) -> Result<(), Failed>
-    ensures text { Wrote (E.taken err.old) (E.taken err.new) (E.faults err.old) (E.faults err.new) (message (end_of status.now)) result }
+    ensures text { Wrote (E.writing err.old) (E.writing err.new) (message (end_of status.now)) result }
     ensures quiet { message (end_of status.now) ≡ [] → err.new ≡ err.old }
 {
     match status {
@@ -155,9 +155,9 @@ fn write_message<E: Sink>(err: &mut E, status: &Status) -> Result<(), Failed>
 
 /// Writes the text of a status. A sink that fails has taken a part of it.
 pub(crate) fn tell<E: Sink>(err: &mut E, status: &Status)
-    ensures text { TookText (record { taken = E.taken err.old; faults = E.faults err.old })
-        (record { taken = E.taken err.new; faults = E.faults err.new }) (message (end_of status.now)) }
-    ensures count { E.faults err.old ≤ E.faults err.new }
+    ensures text { TookText (E.writing err.old)
+        (E.writing err.new) (message (end_of status.now)) }
+    ensures count { (E.writing err.old).faults ≤ (E.writing err.new).faults }
     ensures quiet { message (end_of status.now) ≡ [] → err.new ≡ err.old }
 {
     let _ = write_message(err, status);

@@ -7,7 +7,7 @@ use mrs_io::{Failed, Sink, write_whole};
 
 /// Writes the parts of a text in order. A sink that fails has taken a part of it.
 pub(crate) fn write_parts<E: Sink>(sink: &mut E, parts: &[&[u8]]) -> Result<(), Failed>
-    ensures { Wrote (E.taken sink.old) (E.taken sink.new) (E.faults sink.old) (E.faults sink.new) (joined (map (λ part. part.now) parts.now)) result }
+    ensures { Wrote (E.writing sink.old) (E.writing sink.new) (joined (map (λ part. part.now) parts.now)) result }
 {
     for part in parts {
         write_whole(sink, *part)?;

@@ -1,6 +1,6 @@
 //! How a run ends.
 ghost use Rattle.std.specs.Prelude.{◌≡◌};
-ghost use Rattle.spec_run.specs.Outcome.{exit_number};
+ghost use Rattle.spec_run.specs.End.{exit_number};
 ghost use Rattle.mrs_query.specs.End.{end_of};
 
 use mrs_schema::SchemaFault;

@@ -1,18 +1,13 @@
 //! The top call.
 ghost use Rattle.std.specs.Prelude.{◌≡◌, map, string_bytes, []};
-ghost use Rattle.spec_run.specs.Outcome.{message};
-ghost use Rattle.spec_run.specs.Answers.{Performs, Answers, IsEarly, IsUsage};
-ghost use Rattle.mrs_query.specs.Ended.{CommandEnds};
+ghost use Rattle.spec_run.specs.End.{message, IsEarly, IsUsage};
+ghost use Rattle.spec_run.specs.Answers.{Performs, Answers};
 ghost use Rattle.mrs_query.specs.End.{end_of};
 
 use crate::Status;
-use crate::document::open_document;
-use crate::leaf::show_leaf;
+use crate::commands::fulfil;
 use crate::message::tell;
-use crate::release::Release;
-use crate::request::{insns_name, isa_name, leaf_label};
-use crate::stream::list_stream;
-use mrs_command::{Command, Verb, read_command};
+use mrs_command::read_request;
 use mrs_io::{Shelf, Sink, Source};
 use std::alloc::Global;
 use std::thread::Threads;
@@ -26,47 +21,24 @@ fn perform<V: Shelf, S: Source, K: Sink>(
     input: &mut S,
     out: &mut K,
 ) -> Status
-    ensures performs { Performs (end_of result) (record {
-      words = map string_bytes words.now;
-      documents = V.holds shelf.old;
-      documents_after = V.holds shelf.new;
-      shelf_faults = V.faults shelf.old;
-      shelf_faults_after = V.faults shelf.new;
-      input = record { left = S.left input.old; faults = S.faults input.old };
-      input_after = record { left = S.left input.new; faults = S.faults input.new };
-      out = record { taken = K.taken out.old; faults = K.faults out.old };
-      out_after = record { taken = K.taken out.new; faults = K.faults out.new };
-    }) }
+    ensures performs { Performs (map string_bytes words.now) (record {
+      shelf = V.shelving shelf.old;
+      shelf_after = V.shelving shelf.new;
+      input = S.reading input.old;
+      input_after = S.reading input.new;
+      out = K.writing out.old;
+      out_after = K.writing out.new;
+    }) (end_of result) }
     ensures early { IsEarly (end_of result) → (input.new ≡ input.old) × (out.new ≡ out.old) }
     ensures misused { IsUsage (end_of result) → shelf.new ≡ shelf.old }
 {
-    let command = match read_command(words) {
-        Ok(command) => command,
+    let asked = match read_request(words) {
+        Ok(asked) => asked,
         Err(bad) => return Status::Usage { place: bad.place },
     };
-    match open_document(alloc, shelf, insns_name(&command), isa_name(&command)) {
-        Ok(release) => answer(alloc, &command, &release, input, out),
-        Err(status) => status,
-    }
-}
-
-/// Does what a command asks for by an accepted document.
-fn answer<S: Source, K: Sink>(
-    alloc: Global,
-    command: &Command<'_>,
-    release: &Release,
-    input: &mut S,
-    out: &mut K,
-) -> Status
-    ensures ends { CommandEnds command.now release.now
-        (record { left = S.left input.old; faults = S.faults input.old }) (record { left = S.left input.new; faults = S.faults input.new })
-        (record { taken = K.taken out.old; faults = K.faults out.old }) (record { taken = K.taken out.new; faults = K.faults out.new })
-        (end_of result) }
-    ensures early { IsEarly (end_of result) → (input.new ≡ input.old) × (out.new ≡ out.old) }
-{
-    match command.verb() {
-        Verb::List => list_stream(alloc, release, input, out),
-        Verb::Leaf => show_leaf(alloc, release, leaf_label(command), out),
+    match fulfil(alloc, asked, shelf, input, out) {
+        Ok(status) => status,
+        Err(error) => error.status(),
     }
 }
 
@@ -85,19 +57,14 @@ pub fn run<R: Threads + Sync, V: Shelf, S: Source, K: Sink, E: Sink>(
     out: &mut K,
     err: &mut E,
 ) -> Status
-    ensures answers { Answers (end_of result) (record {
-      words = map string_bytes words.now;
-      documents = V.holds shelf.old;
-      documents_after = V.holds shelf.new;
-      shelf_faults = V.faults shelf.old;
-      shelf_faults_after = V.faults shelf.new;
-      input = record { left = S.left input.old; faults = S.faults input.old };
-      input_after = record { left = S.left input.new; faults = S.faults input.new };
-      out = record { taken = K.taken out.old; faults = K.faults out.old };
-      out_after = record { taken = K.taken out.new; faults = K.faults out.new };
-    })
-        (record { taken = E.taken err.old; faults = E.faults err.old })
-        (record { taken = E.taken err.new; faults = E.faults err.new }) }
+    ensures answers { Answers (map string_bytes words.now) (record {
+      shelf = V.shelving shelf.old;
+      shelf_after = V.shelving shelf.new;
+      input = S.reading input.old;
+      input_after = S.reading input.new;
+      out = K.writing out.old;
+      out_after = K.writing out.new;
+    }) (E.writing err.old) (E.writing err.new) (end_of result) }
     // Before the stream nothing is read from it and nothing goes out; refused words do not touch the shelf.
     ensures early { IsEarly (end_of result) → (input.new ≡ input.old) × (out.new ≡ out.old) }
     ensures misused { IsUsage (end_of result) → shelf.new ≡ shelf.old }

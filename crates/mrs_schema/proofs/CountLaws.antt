@@ -3,15 +3,18 @@ use Rattle.std.proofs.Common.{◌≡◌, ◌∙◌, sym, ap, refl, ℕ, ◌+◌,
 use Rattle.std.specs.Prelude.{count_by}
 use Rattle.std.proofs.lemmas.Bool.{or_parts}
 use Rattle.std.proofs.lemmas.List.{length-map, length_push}
-use Rattle.spec_walk.specs.Event.{TooMany, Fault, Event, OneMore, ALeaf, AnAlias}
-use Rattle.spec_walk.specs.Limits.{Counts, judged, ◌>>=◌}
+use Rattle.spec_walk.specs.Event.{TooMany, Fault, ALeaf, AnAlias}
+use Rattle.spec_walk.specs.Limits.{Counts, ◌>>=◌}
+use Rattle.spec_walk.specs.Walk.{Walk, Done, gives}
+use Rattle.spec_walk.specs.Spot.{Spot}
+use Rattle.spec_walk.specs.Spot as spot
 use Rattle.spec_instructions.specs.Walk.{counted}
 use Rattle.mrs_arena.specs.declared.kind.Kind.{Kind}
 use Rattle.mrs_arena.specs.declared.kind.Kind.TheVariants.{Set, Group, Leaf, Alias}
 use Rattle.mrs_arena.specs.Flat.{FlatItem, FlatNode}
 use Rattle.mrs_arena.specs.Nodes.{new_node, with_item}
 use Rattle.mrs_arena.specs.Limits.{is_leaf, is_alias, leaf_count, alias_count, is_kind_full, is_node_refused}
-use Rattle.mrs_arena.specs.Placed.{kind_of, placed}
+use Rattle.mrs_arena.specs.Placed.{kind_of, placed_node}
 use Rattle.mrs_arena.proofs.FormedLaws.{leaf_count-push, alias_count-push}
 use Rattle.mrs_arena.proofs.HeldLaws.{count_by-map}
 use Rattle.mrs_arena.proofs.PutLaws.{length-with_item}
@@ -34,12 +37,12 @@ alias_kind Group = refl
 alias_kind Leaf = refl
 alias_kind Alias = refl
 
-pub counts-placed : (names : List (List ℕ)) (nodes : List FlatNode) → counts (record { names = names; nodes = map (placed names) nodes }) ≡ put_counts names (length nodes) (leaf_count nodes) (alias_count nodes)
+counts-placed : (names : List (List ℕ)) (nodes : List FlatNode) → counts (record { names = names; nodes = map (placed_node names) nodes }) ≡ put_counts names (length nodes) (leaf_count nodes) (alias_count nodes)
 counts-placed names nodes =
-    ap (λ n. put_counts names n (count_by (λ p. is_leaf_kind p.own.kind) (map (placed names) nodes)) (count_by (λ p. is_alias_kind p.own.kind) (map (placed names) nodes))) (length-map nodes (placed names))
-    ∙ ap (λ n. put_counts names (length nodes) n (count_by (λ p. is_alias_kind p.own.kind) (map (placed names) nodes)))
-    (count_by-map (λ p. is_leaf_kind p.own.kind) (λ node. is_leaf node.kind) (placed names) nodes (λ node. leaf_kind node.kind))
-    ∙ ap (put_counts names (length nodes) (leaf_count nodes)) (count_by-map (λ p. is_alias_kind p.own.kind) (λ node. is_alias node.kind) (placed names) nodes (λ node. alias_kind node.kind))
+    ap (λ n. put_counts names n (count_by (λ p. is_leaf_kind p.own.kind) (map (placed_node names) nodes)) (count_by (λ p. is_alias_kind p.own.kind) (map (placed_node names) nodes))) (length-map nodes (placed_node names))
+    ∙ ap (λ n. put_counts names (length nodes) n (count_by (λ p. is_alias_kind p.own.kind) (map (placed_node names) nodes)))
+    (count_by-map (λ p. is_leaf_kind p.own.kind) (λ node. is_leaf node.kind) (placed_node names) nodes (λ node. leaf_kind node.kind))
+    ∙ ap (put_counts names (length nodes) (leaf_count nodes)) (count_by-map (λ p. is_alias_kind p.own.kind) (λ node. is_alias node.kind) (placed_node names) nodes (λ node. alias_kind node.kind))
 
 -- ---- one more node
 
@@ -51,36 +54,36 @@ one_more-is : (is : Bool) (n : ℕ) → n + cond is 1 0 ≡ one_more is n
 one_more-is true n = refl
 one_more-is false n = omega arith
 
-abbrev full_at : List ℕ → Fault
-full_at at = record { at = at; why = TooMany }
+abbrev full_at : Spot → Fault
+full_at here = record { at = here.at; why = TooMany }
 
-abbrev first_step : List ℕ → Bool → Counts → List Event → Result Counts Fault
-first_step at full next more = cond full (Err (full_at at)) (Ok next) >>= judged more
+abbrev first_step : Spot → Bool → Counts → Walk Unit → Result (Unit × Counts) Fault
+first_step here full next more = cond full (Err (full_at here)) (Ok next) >>= gives more
 
-counted-room : (kind : Kind) (at : List ℕ) (names : List (List ℕ)) (n l a : ℕ) → nat_le 1048576 n ≡ false → is_kind_full kind l a ≡ false
-    → judged (counted (kind_of kind) at) (put_counts names n l a) ≡ Ok (put_counts names (n + 1) (one_more (is_leaf kind) l) (one_more (is_alias kind) a))
-counted-room Set at names n l a room rest = ap (λ b. first_step at b (put_counts names (n + 1) l a) []) room
-counted-room Group at names n l a room rest = ap (λ b. first_step at b (put_counts names (n + 1) l a) []) room
-counted-room Leaf at names n l a room rest =
-    ap (λ b. first_step at b (put_counts names (n + 1) l a) (OneMore ALeaf at ∷ [])) room ∙ ap (λ b. first_step at b (put_counts names (n + 1) (l + 1) a) []) rest
-counted-room Alias at names n l a room rest =
-    ap (λ b. first_step at b (put_counts names (n + 1) l a) (OneMore AnAlias at ∷ [])) room ∙ ap (λ b. first_step at b (put_counts names (n + 1) l (a + 1)) []) rest
+counted-room : (kind : Kind) (here : Spot) (names : List (List ℕ)) (n l a : ℕ) → nat_le 1048576 n ≡ false → is_kind_full kind l a ≡ false
+    → gives (counted (kind_of kind) here) (put_counts names n l a) ≡ Ok (tt, put_counts names (n + 1) (one_more (is_leaf kind) l) (one_more (is_alias kind) a))
+counted-room Set here names n l a room rest = ap (λ b. first_step here b (put_counts names (n + 1) l a) (Done tt)) room
+counted-room Group here names n l a room rest = ap (λ b. first_step here b (put_counts names (n + 1) l a) (Done tt)) room
+counted-room Leaf here names n l a room rest =
+    ap (λ b. first_step here b (put_counts names (n + 1) l a) (spot.one_more ALeaf here)) room ∙ ap (λ b. first_step here b (put_counts names (n + 1) (l + 1) a) (Done tt)) rest
+counted-room Alias here names n l a room rest =
+    ap (λ b. first_step here b (put_counts names (n + 1) l a) (spot.one_more AnAlias here)) room ∙ ap (λ b. first_step here b (put_counts names (n + 1) l (a + 1)) (Done tt)) rest
 
-counted-full : (kind : Kind) (at : List ℕ) (names : List (List ℕ)) (n l a : ℕ) → (nat_le 1048576 n || is_kind_full kind l a) ≡ true → judged (counted (kind_of kind) at) (put_counts names n l a) ≡ Err (full_at at)
-counted-full kind at names n l a full = go kind (nat_le 1048576 n) refl (is_kind_full kind l a) refl full
+counted-full : (kind : Kind) (here : Spot) (names : List (List ℕ)) (n l a : ℕ) → (nat_le 1048576 n || is_kind_full kind l a) ≡ true → gives (counted (kind_of kind) here) (put_counts names n l a) ≡ Err (full_at here)
+counted-full kind here names n l a full = go kind (nat_le 1048576 n) refl (is_kind_full kind l a) refl full
   where
     go : (kind : Kind) (first : Bool) → nat_le 1048576 n ≡ first → (second : Bool) → is_kind_full kind l a ≡ second → (first || second) ≡ true
-        → judged (counted (kind_of kind) at) (put_counts names n l a) ≡ Err (full_at at)
-    go Set true e second f h = ap (λ b. first_step at b (put_counts names (n + 1) l a) []) e
-    go Group true e second f h = ap (λ b. first_step at b (put_counts names (n + 1) l a) []) e
-    go Leaf true e second f h = ap (λ b. first_step at b (put_counts names (n + 1) l a) (OneMore ALeaf at ∷ [])) e
-    go Alias true e second f h = ap (λ b. first_step at b (put_counts names (n + 1) l a) (OneMore AnAlias at ∷ [])) e
+        → gives (counted (kind_of kind) here) (put_counts names n l a) ≡ Err (full_at here)
+    go Set true e second f h = ap (λ b. first_step here b (put_counts names (n + 1) l a) (Done tt)) e
+    go Group true e second f h = ap (λ b. first_step here b (put_counts names (n + 1) l a) (Done tt)) e
+    go Leaf true e second f h = ap (λ b. first_step here b (put_counts names (n + 1) l a) (spot.one_more ALeaf here)) e
+    go Alias true e second f h = ap (λ b. first_step here b (put_counts names (n + 1) l a) (spot.one_more AnAlias here)) e
     go Set false e second f h = absurd (cc)
     go Group false e second f h = absurd (cc)
     go Leaf false e true f h =
-        ap (λ b. first_step at b (put_counts names (n + 1) l a) (OneMore ALeaf at ∷ [])) e ∙ ap (λ b. first_step at b (put_counts names (n + 1) (l + 1) a) []) f
+        ap (λ b. first_step here b (put_counts names (n + 1) l a) (spot.one_more ALeaf here)) e ∙ ap (λ b. first_step here b (put_counts names (n + 1) (l + 1) a) (Done tt)) f
     go Alias false e true f h =
-        ap (λ b. first_step at b (put_counts names (n + 1) l a) (OneMore AnAlias at ∷ [])) e ∙ ap (λ b. first_step at b (put_counts names (n + 1) l (a + 1)) []) f
+        ap (λ b. first_step here b (put_counts names (n + 1) l a) (spot.one_more AnAlias here)) e ∙ ap (λ b. first_step here b (put_counts names (n + 1) l (a + 1)) (Done tt)) f
     go Leaf false e false f h = absurd (cc)
     go Alias false e false f h = absurd (cc)
 
@@ -93,19 +96,19 @@ put_counts-push names nodes kind name parent =
     ∙ ap (λ n. put_counts names (length nodes + 1) n (alias_count (nodes ++ node ∷ []))) (leaf_count-push nodes node ∙ one_more-is (is_leaf kind) (leaf_count nodes))
     ∙ ap (put_counts names (length nodes + 1) (one_more (is_leaf kind) (leaf_count nodes))) (alias_count-push nodes node ∙ one_more-is (is_alias kind) (alias_count nodes))
 
-pub node_taken : (at : List ℕ) (names : List (List ℕ)) (nodes : List FlatNode) (kind : Kind) (name : ℕ) (parent : Option ℕ) → is_node_refused nodes kind ≡ false
-    → judged (counted (kind_of kind) at) (counts (record { names = names; nodes = map (placed names) nodes }))
-    ≡ Ok (counts (record { names = names; nodes = map (placed names) (nodes ++ new_node kind name parent ∷ []) }))
-node_taken at names nodes kind name parent room =
+pub node_taken : (here : Spot) (names : List (List ℕ)) (nodes : List FlatNode) (kind : Kind) (name : ℕ) (parent : Option ℕ) → is_node_refused nodes kind ≡ false
+    → gives (counted (kind_of kind) here) (counts (record { names = names; nodes = map (placed_node names) nodes }))
+    ≡ Ok (tt, counts (record { names = names; nodes = map (placed_node names) (nodes ++ new_node kind name parent ∷ []) }))
+node_taken here names nodes kind name parent room =
     let parts = or_parts (nat_le 1048576 (length nodes)) (is_kind_full kind (leaf_count nodes) (alias_count nodes)) room in
-    ap (judged (counted (kind_of kind) at)) (counts-placed names nodes)
-    ∙ counted-room kind at names (length nodes) (leaf_count nodes) (alias_count nodes) parts.0 parts.1
-    ∙ ap Ok (sym (put_counts-push names nodes kind name parent) ∙ sym (counts-placed names (nodes ++ new_node kind name parent ∷ [])))
+    ap (gives (counted (kind_of kind) here)) (counts-placed names nodes)
+    ∙ counted-room kind here names (length nodes) (leaf_count nodes) (alias_count nodes) parts.0 parts.1
+    ∙ ap (λ c. Ok (tt, c)) (sym (put_counts-push names nodes kind name parent) ∙ sym (counts-placed names (nodes ++ new_node kind name parent ∷ [])))
 
-pub node_refused : (at : List ℕ) (names : List (List ℕ)) (nodes : List FlatNode) (kind : Kind) → is_node_refused nodes kind ≡ true
-    → judged (counted (kind_of kind) at) (counts (record { names = names; nodes = map (placed names) nodes })) ≡ Err (record { at = at; why = TooMany })
-node_refused at names nodes kind refused =
-    ap (judged (counted (kind_of kind) at)) (counts-placed names nodes) ∙ counted-full kind at names (length nodes) (leaf_count nodes) (alias_count nodes) refused
+pub node_refused : (here : Spot) (names : List (List ℕ)) (nodes : List FlatNode) (kind : Kind) → is_node_refused nodes kind ≡ true
+    → gives (counted (kind_of kind) here) (counts (record { names = names; nodes = map (placed_node names) nodes })) ≡ Err (record { at = here.at; why = TooMany })
+node_refused here names nodes kind refused =
+    ap (gives (counted (kind_of kind) here)) (counts-placed names nodes) ∙ counted-full kind here names (length nodes) (leaf_count nodes) (alias_count nodes) refused
 
 -- ---- one more item
 
@@ -121,7 +124,7 @@ count-with_item is it nodes =
 
 -- an item is not counted
 pub counts-with_item : (names : List (List ℕ)) (it : FlatItem) (nodes : List FlatNode)
-    → counts (record { names = names; nodes = map (placed names) nodes }) ≡ counts (record { names = names; nodes = map (placed names) (with_item it nodes) })
+    → counts (record { names = names; nodes = map (placed_node names) nodes }) ≡ counts (record { names = names; nodes = map (placed_node names) (with_item it nodes) })
 counts-with_item names it nodes =
     counts-placed names nodes
     ∙ ap (λ n. put_counts names n (leaf_count nodes) (alias_count nodes)) (sym (length-with_item it nodes))

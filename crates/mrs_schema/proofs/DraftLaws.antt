@@ -1,81 +1,69 @@
 -- What the nodes of a draft stand for, as items are put.
-use Rattle.std.proofs.Common.{◌≡◌, ◌∙◌, sym, ap, refl, ℕ, zero, suc, ◌+◌, ◌-◌, ◌<◌, ◌≤◌, Bool, true, false, ◌&&◌, ◌||◌, nat_le, nat_lt, List, [], ◌∷◌, ◌++◌, length, map, Option, Some, None, is_some, option_map, option_to_list, IfSome, All, bytes_eq, arith, Result, Ok, Err}
+use Rattle.std.proofs.Common.{◌≡◌, ◌∙◌, sym, ap, refl, ℕ, zero, suc, ◌+◌, ◌-◌, ◌<◌, ◌≤◌, Bool, true, false, ◌&&◌, ◌||◌, nat_le, nat_lt, List, [], ◌∷◌, ◌++◌, length, map, Option, Some, None, is_some, option_map, option_to_list, IfSome, All, bytes_eq, arith, Ok, Err}
 use Rattle.std.specs.Prelude.{flat_map}
 use Rattle.std.specs.List.{list_any}
 use Rattle.std.proofs.lemmas.Bool.{leb-false, leb-true, le-leb, lt-leb, lt-ltb, le-ltb, or_parts, and_left, and_right}
 use Rattle.std.proofs.lemmas.List.{map_push, map-append, length-map}
 use Rattle.std.proofs.lemmas.List.Elements.{All-nil, All-head, All-tail}
-use Rattle.spec_walk.specs.Event.{TooMany, Fault}
-use Rattle.spec_walk.specs.Limits.{Counts, judged}
-use Rattle.spec_walk.specs.Members.{unless}
-use Rattle.spec_instructions.specs.Encodeset.{within_limits}
+use Rattle.spec_walk.specs.Event.{TooMany}
+use Rattle.spec_walk.specs.Walk.{gives}
+use Rattle.spec_walk.specs.Spot.{Spot, unless}
+use Rattle.spec_instructions.specs.Encodeset.{within_limits, named_in}
 use Rattle.mrs_names.specs.Texts.{place_of, AreNames}
 use Rattle.mrs_names.specs.declared.name_id.NameId.{NameId}
 use Rattle.mrs_arena.specs.Flat.{FlatItem, FlatNode}
 use Rattle.mrs_arena.specs.Paths.{ancestors}
 use Rattle.mrs_arena.specs.Nodes as flat
-use Rattle.mrs_arena.specs.Nodes.{parents_of, named_on, path_items, with_item}
+use Rattle.mrs_arena.specs.Nodes.{parents_of, named_on, items_upward, with_item}
 use Rattle.mrs_arena.specs.Limits.{is_item_refused}
 use Rattle.mrs_arena.specs.Formed.{AreNodes}
-use Rattle.mrs_arena.specs.Placed.{text_of, item_of, kind_of, Placed, placed, IsHeldItem, IsHeldNode, AreHeld}
+use Rattle.mrs_arena.specs.Placed.{text_of, item_of, own_of_flat, Placed, placed_node, IsHeldItem, IsHeldNode, AreHeld}
 use Rattle.mrs_arena.proofs.HeldLaws.{parents-placed, count_by-map, is_some-map}
 use Rattle.mrs_arena.proofs.PutLaws.{length-with_item}
-use Rattle.mrs_schema.specs.Drafted.{counts, items_at, last_items, named_at, last_named, named_in, with_items, Passes}
+use Rattle.mrs_schema.specs.Drafted.{counts, items_at, last_items, named_at, last_named, with_items}
 use Rattle.mrs_schema.proofs.PlacedLaws.{last_named-with_items}
 use Rattle.mrs_schema.proofs.CountLaws.{counts-with_item}
-use Rattle.mrs_schema.specs.Items.{names_of}
+use Rattle.spec_instructions.specs.Encodeset.{names_of}
 use Rattle.mrs_schema.proofs.TakenLaws.{place_of-held, has_number, has_number-is, has_no_number}
-use Rattle.mrs_schema.specs.Gives.{Fails}
-use Rattle.mrs_schema.specs.declared.fault.ReadFault.{ReadFault}
-use Rattle.mrs_schema.specs.declared.fault.ReadFault.TheVariants.{Schema, NoMemory}
-
--- a fault that is made stands for the one in which the events end
-pub Passes-fault : {T : Type 0} (fault : ReadFault) (first : Fault) (ended : Result Counts Fault) (after : Counts) (P : T → Type 0) → Fails fault (Some first) → ended ≡ Err first → Passes (Err fault) ended after P
-Passes-fault (Schema f) first ended after P made ends = ends ∙ ap Err (let same = made in cc)
-Passes-fault NoMemory first ended after P made ends = tt
 
 -- ---- items
 
-items-placed : (names : List (List ℕ)) (nodes : List FlatNode) (n : ℕ) → items_at (map (placed names) nodes) n ≡ map (item_of names) (flat.items_at nodes n)
+items-placed : (names : List (List ℕ)) (nodes : List FlatNode) (n : ℕ) → items_at (map (placed_node names) nodes) n ≡ map (item_of names) (flat.node_items nodes n)
 items-placed names [] n = refl
 items-placed names (node ∷ nodes) zero = refl
 items-placed names (node ∷ nodes) (suc n) = items-placed names nodes n
 
-pub last_items-placed : (names : List (List ℕ)) (nodes : List FlatNode) → last_items (map (placed names) nodes) ≡ map (item_of names) (flat.last_items nodes)
-last_items-placed names nodes = ap (λ n. items_at (map (placed names) nodes) (n - 1)) (length-map nodes (placed names)) ∙ items-placed names nodes (length nodes - 1)
+last_items-placed : (names : List (List ℕ)) (nodes : List FlatNode) → last_items (map (placed_node names) nodes) ≡ map (item_of names) (flat.last_items nodes)
+last_items-placed names nodes = ap (λ n. items_at (map (placed_node names) nodes) (n - 1)) (length-map nodes (placed_node names)) ∙ items-placed names nodes (length nodes - 1)
 
-items-held : (names : List (List ℕ)) (nodes : List FlatNode) (n : ℕ) → AreHeld names nodes → All (IsHeldItem names) (flat.items_at nodes n)
+items-held : (names : List (List ℕ)) (nodes : List FlatNode) (n : ℕ) → AreHeld names nodes → All (IsHeldItem names) (flat.node_items nodes n)
 items-held names [] n held = All-nil (IsHeldItem names)
 items-held names (node ∷ nodes) zero held = let first = All-head (IsHeldNode names) node nodes held in first.items
 items-held names (node ∷ nodes) (suc n) held = items-held names nodes n (All-tail (IsHeldNode names) node nodes held)
 
-pub last_items-held : (names : List (List ℕ)) (nodes : List FlatNode) → AreHeld names nodes → All (IsHeldItem names) (flat.last_items nodes)
+last_items-held : (names : List (List ℕ)) (nodes : List FlatNode) → AreHeld names nodes → All (IsHeldItem names) (flat.last_items nodes)
 last_items-held names nodes held = items-held names nodes (length nodes - 1) held
 
-path-placed : (names : List (List ℕ)) (nodes : List FlatNode) (ks : List ℕ) → flat_map (items_at (map (placed names) nodes)) ks ≡ map (item_of names) (flat_map (flat.items_at nodes) ks)
+path-placed : (names : List (List ℕ)) (nodes : List FlatNode) (ks : List ℕ) → flat_map (items_at (map (placed_node names) nodes)) ks ≡ map (item_of names) (flat_map (flat.node_items nodes) ks)
 path-placed names nodes [] = refl
 path-placed names nodes (k ∷ ks) =
-    ap (λ items. items ++ flat_map (items_at (map (placed names) nodes)) ks) (items-placed names nodes k)
-    ∙ ap (λ items. map (item_of names) (flat.items_at nodes k) ++ items) (path-placed names nodes ks)
-    ∙ sym (map-append (item_of names) (flat.items_at nodes k) (flat_map (flat.items_at nodes) ks))
+    ap (λ items. items ++ flat_map (items_at (map (placed_node names) nodes)) ks) (items-placed names nodes k)
+    ∙ ap (λ items. map (item_of names) (flat.node_items nodes k) ++ items) (path-placed names nodes ks)
+    ∙ sym (map-append (item_of names) (flat.node_items nodes k) (flat_map (flat.node_items nodes) ks))
 
 -- as many items of a path are named
-pub named_at-placed : (names : List (List ℕ)) (nodes : List FlatNode) (n : ℕ) → named_at (map (placed names) nodes) n ≡ named_on nodes n
+named_at-placed : (names : List (List ℕ)) (nodes : List FlatNode) (n : ℕ) → named_at (map (placed_node names) nodes) n ≡ named_on nodes n
 named_at-placed names nodes n =
-    ap (λ ps. named_in (flat_map (items_at (map (placed names) nodes)) (ancestors ps n))) (parents-placed names nodes)
+    ap (λ ps. named_in (flat_map (items_at (map (placed_node names) nodes)) (ancestors ps n))) (parents-placed names nodes)
     ∙ ap named_in (path-placed names nodes (ancestors (parents_of nodes) n))
-    ∙ count_by-map (λ it. is_some it.name) (λ it. is_some it.name) (item_of names) (path_items nodes n) (λ it. is_some-map (text_of names) it.name)
+    ∙ count_by-map (λ it. is_some it.name) (λ it. is_some it.name) (item_of names) (items_upward nodes n) (λ it. is_some-map (text_of names) it.name)
 
-pub placed-with_item : (names : List (List ℕ)) (it : FlatItem) (nodes : List FlatNode) → map (placed names) (with_item it nodes) ≡ with_items (item_of names it ∷ []) (map (placed names) nodes)
+pub placed-with_item : (names : List (List ℕ)) (it : FlatItem) (nodes : List FlatNode) → map (placed_node names) (with_item it nodes) ≡ with_items (item_of names it ∷ []) (map (placed_node names) nodes)
 placed-with_item names it [] = refl
-placed-with_item names it (node ∷ []) = ap (λ items. record { parent = node.parent; own = record { kind = kind_of node.kind; name = text_of names node.name; items = items } } ∷ []) (map_push (item_of names) node.items it)
-placed-with_item names it (node ∷ next ∷ rest) = ap (λ nodes. placed names node ∷ nodes) (placed-with_item names it (next ∷ rest))
+placed-with_item names it (node ∷ []) = ap (λ items. record (placed_node names node) { own = record (own_of_flat names node) { items = items } } ∷ []) (map_push (item_of names) node.items it)
+placed-with_item names it (node ∷ next ∷ rest) = ap (λ nodes. placed_node names node ∷ nodes) (placed-with_item names it (next ∷ rest))
 
 -- ---- limits
-
--- what the limits are held against
-abbrev item_fits : ℕ → ℕ → Bool
-item_fits place named = nat_lt place 64 && nat_le named 256
 
 named_one : (names : List (List ℕ)) (it : FlatItem) (name : Option ℕ) → it.name ≡ name → named_in (item_of names it ∷ []) ≡ length (option_to_list name)
 named_one names it name e = ap (λ o. named_in (record { name = option_map (text_of names) o; start = it.start; digits = it.digits; marks = it.marks } ∷ [])) e ∙ go name
@@ -84,46 +72,46 @@ named_one names it name e = ap (λ o. named_in (record { name = option_map (text
     go None = refl
     go (Some id) = refl
 
-length-last_items : (names : List (List ℕ)) (nodes : List FlatNode) → length (last_items (map (placed names) nodes)) ≡ length (flat.last_items nodes)
+length-last_items : (names : List (List ℕ)) (nodes : List FlatNode) → length (last_items (map (placed_node names) nodes)) ≡ length (flat.last_items nodes)
 length-last_items names nodes = ap length (last_items-placed names nodes) ∙ length-map (flat.last_items nodes) (item_of names)
 
-last_named-placed : (names : List (List ℕ)) (nodes : List FlatNode) → last_named (map (placed names) nodes) ≡ named_on nodes (length nodes - 1)
-last_named-placed names nodes = ap (λ n. named_at (map (placed names) nodes) (n - 1)) (length-map nodes (placed names)) ∙ named_at-placed names nodes (length nodes - 1)
+last_named-placed : (names : List (List ℕ)) (nodes : List FlatNode) → last_named (map (placed_node names) nodes) ≡ named_on nodes (length nodes - 1)
+last_named-placed names nodes = ap (λ n. named_at (map (placed_node names) nodes) (n - 1)) (length-map nodes (placed_node names)) ∙ named_at-placed names nodes (length nodes - 1)
 
 -- the named items of the last node's path stay within their limit with an item that was put
-few_named : (names : List (List ℕ)) (nodes : List FlatNode) (it : FlatItem) → 0 < length nodes → AreNodes (with_item it nodes) → last_named (map (placed names) nodes) + length (option_to_list it.name) ≤ 256
+few_named : (names : List (List ℕ)) (nodes : List FlatNode) (it : FlatItem) → 0 < length nodes → AreNodes (with_item it nodes) → last_named (map (placed_node names) nodes) + length (option_to_list it.name) ≤ 256
 few_named names nodes it some are =
     let count = length-with_item it nodes in
     let few = are.few_named (length (with_item it nodes) - 1) (omega arith) in
     let new = last_named-placed names (with_item it nodes) in
-    let put = ap last_named (placed-with_item names it nodes) ∙ last_named-with_items (item_of names it ∷ []) (map (placed names) nodes) (omega (arith, length-map nodes (placed names))) in
+    let put = ap last_named (placed-with_item names it nodes) ∙ last_named-with_items (item_of names it ∷ []) (map (placed_node names) nodes) (omega (arith, length-map nodes (placed_node names))) in
     omega (arith, few, new, put, named_one names it it.name refl)
 
-pub item_taken : (at : List ℕ) (names : List (List ℕ)) (nodes : List FlatNode) (it : FlatItem) (named : ℕ) → named ≡ length (option_to_list it.name) → 0 < length nodes → is_item_refused nodes it ≡ false → AreNodes (with_item it nodes)
-    → judged (within_limits (length (last_items (map (placed names) nodes))) (last_named (map (placed names) nodes) + named) at) (counts (record { names = names; nodes = map (placed names) nodes }))
-    ≡ Ok (counts (record { names = names; nodes = map (placed names) (with_item it nodes) }))
-item_taken at names nodes it named is some room are =
-    let before = map (placed names) nodes in
+pub item_taken : (here : Spot) (names : List (List ℕ)) (nodes : List FlatNode) (it : FlatItem) (named : ℕ) → named ≡ length (option_to_list it.name) → 0 < length nodes → is_item_refused nodes it ≡ false → AreNodes (with_item it nodes)
+    → gives (unless (within_limits (length (last_items (map (placed_node names) nodes))) (last_named (map (placed_node names) nodes) + named)) here TooMany) (counts (record { names = names; nodes = map (placed_node names) nodes }))
+    ≡ Ok (tt, counts (record { names = names; nodes = map (placed_node names) (with_item it nodes) }))
+item_taken here names nodes it named is some room are =
+    let before = map (placed_node names) nodes in
     let parts = or_parts (nat_le 64 (length (flat.last_items nodes))) (is_some it.name && nat_le 256 (named_on nodes (length nodes - 1))) room in
     let low : length (last_items before) < 64 = omega (arith, length-last_items names nodes, leb-false 64 (length (flat.last_items nodes)) parts.0) in
     let few : last_named before + named ≤ 256 = omega (arith, few_named names nodes it some are) in
-    let ended = λ (fits : Bool). judged (unless fits at TooMany) (counts (record { names = names; nodes = before })) in
+    let ended = λ (fits : Bool). gives (unless fits here TooMany) (counts (record { names = names; nodes = before })) in
     ap (λ b. ended (b && nat_le (last_named before + named) 256)) (lt-ltb (length (last_items before)) 64 low)
-    ∙ ap ended (le-leb (last_named before + named) 256 few) ∙ ap Ok (counts-with_item names it nodes)
+    ∙ ap ended (le-leb (last_named before + named) 256 few) ∙ ap (λ c. Ok (tt, c)) (counts-with_item names it nodes)
 
-pub item_refused : (at : List ℕ) (names : List (List ℕ)) (nodes : List FlatNode) (it : FlatItem) (named : ℕ) → named ≡ length (option_to_list it.name) → is_item_refused nodes it ≡ true
-    → judged (within_limits (length (last_items (map (placed names) nodes))) (last_named (map (placed names) nodes) + named) at) (counts (record { names = names; nodes = map (placed names) nodes }))
-    ≡ Err (record { at = at; why = TooMany })
-item_refused at names nodes it named is refused =
-    ap (λ fits. judged (unless fits at TooMany) (counts (record { names = names; nodes = before })))
+pub item_refused : (here : Spot) (names : List (List ℕ)) (nodes : List FlatNode) (it : FlatItem) (named : ℕ) → named ≡ length (option_to_list it.name) → is_item_refused nodes it ≡ true
+    → gives (unless (within_limits (length (last_items (map (placed_node names) nodes))) (last_named (map (placed_node names) nodes) + named)) here TooMany) (counts (record { names = names; nodes = map (placed_node names) nodes }))
+    ≡ Err (record { at = here.at; why = TooMany })
+item_refused here names nodes it named is refused =
+    ap (λ fits. gives (unless fits here TooMany) (counts (record { names = names; nodes = before })))
     (go (nat_le 64 (length (flat.last_items nodes))) refl it.name is refused)
   where
     before : List Placed
-    before = map (placed names) nodes
+    before = map (placed_node names) nodes
 
     go : (full : Bool) → nat_le 64 (length (flat.last_items nodes)) ≡ full → (name : Option ℕ) → named ≡ length (option_to_list name)
         → (full || (is_some name && nat_le 256 (named_on nodes (length nodes - 1)))) ≡ true
-        → item_fits (length (last_items before)) (last_named before + named) ≡ false
+        → within_limits (length (last_items before)) (last_named before + named) ≡ false
     go true e name is h =
         let high : 64 ≤ length (last_items before) = omega (arith, length-last_items names nodes, leb-true 64 (length (flat.last_items nodes)) e) in
         and_left (nat_lt (length (last_items before)) 64) (nat_le (last_named before + named) 256) (le-ltb (length (last_items before)) 64 high)
@@ -136,7 +124,7 @@ item_refused at names nodes it named is refused =
 
 -- a text that has a number is taken where an item of the last node has that number
 pub has_number-last : (text : List ℕ) (names : List (List ℕ)) (nodes : List FlatNode) (id : ℕ) → AreNames names → AreHeld names nodes → place_of text names ≡ Some id
-    → list_any (bytes_eq text) (names_of (last_items (map (placed names) nodes))) ≡ flat.is_taken (flat.last_items nodes) (Some id)
+    → list_any (bytes_eq text) (names_of (last_items (map (placed_node names) nodes))) ≡ flat.is_taken (flat.last_items nodes) (Some id)
 has_number-last text names nodes id are held place =
     let items = flat.last_items nodes in
     ap (λ its. list_any (bytes_eq text) (names_of its)) (last_items-placed names nodes)
@@ -144,7 +132,7 @@ has_number-last text names nodes id are held place =
 
 -- and one without a number is not
 pub has_no_number-last : (text : List ℕ) (names : List (List ℕ)) (nodes : List FlatNode) → AreNames names → AreHeld names nodes → place_of text names ≡ None
-    → list_any (bytes_eq text) (names_of (last_items (map (placed names) nodes))) ≡ false
+    → list_any (bytes_eq text) (names_of (last_items (map (placed_node names) nodes))) ≡ false
 has_no_number-last text names nodes are held new =
     ap (λ its. list_any (bytes_eq text) (names_of its)) (last_items-placed names nodes)
     ∙ has_no_number text names (flat.last_items nodes) are.distinct (last_items-held names nodes held) new
@@ -161,7 +149,7 @@ length-number (Some id) = refl
 
 -- a name whose text no item has is free
 pub free_number : (names : List (List ℕ)) (nodes : List FlatNode) (name : Option NameId) → AreNames names → AreHeld names nodes → IfSome name (λ id. id.0 < length names)
-    → IfSome name (λ id. list_any (bytes_eq (text_of names id.0)) (names_of (last_items (map (placed names) nodes))) ≡ false)
+    → IfSome name (λ id. list_any (bytes_eq (text_of names id.0)) (names_of (last_items (map (placed_node names) nodes))) ≡ false)
     → flat.is_taken (flat.last_items nodes) (option_map (λ id. id.0) name) ≡ false
 free_number names nodes None are held own free = refl
 free_number names nodes (Some id) are held own free = sym (has_number-last (text_of names id.0) names nodes id.0 are held (place_of-held names id.0 are.distinct own)) ∙ free

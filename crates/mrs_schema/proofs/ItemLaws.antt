@@ -1,167 +1,120 @@
--- Laws of the walk over an item, and of items that are read.
-use Rattle.std.proofs.Common.{◌≡◌, ◌∙◌, sym, ap, subst, ℕ, ◌<◌, ◌+◌, List, [], ◌∷◌, ◌++◌, length, false, Option, Some, None, bytes_eq, codes}
-use Rattle.std.specs.Prelude.{is_some, IfSome, option_to_list}
-use Rattle.std.specs.List.{list_any}
-use Rattle.serde_json.specs.Data.{Data, Members}
-use Rattle.serde_json.specs.Find.{get}
+-- Laws of items that are read.
+use Rattle.std.proofs.Common.{◌≡◌, ◌∙◌, sym, ap, subst, ℕ, ◌+◌, ◌<◌, ◌≤◌, List, [], ◌∷◌, ◌++◌, length, get_or, Option, Some, None, option_map, Result, arith, add-zero, add_assoc}
+use Rattle.std.specs.Prelude.{option_to_list, is_some}
+use Rattle.serde_json.specs.View.{view, items_view}
+use Rattle.serde_json.specs.declared.value.Value.{Value}
+use Rattle.spec_walk.specs.Pointer.{element}
+use Rattle.serde_json.specs.Data.{Items}
 use Rattle.spec_bits.specs.Item.{Item}
-use Rattle.spec_bits.specs.PatternText.{PatternRefusal, pattern_in}
-use Rattle.spec_bits.specs.Pattern.{Digit}
-use Rattle.std.proofs.Common.{Result, Ok, Err}
-use Rattle.spec_walk.specs.Limits.{Counts, judged}
-use Rattle.spec_walk.specs.Event.{Event, BadPattern, BadRange, WrongShape}
-use Rattle.spec_walk.specs.Members.{in_object, in_text, needed, typed, whole_number, unless}
-use Rattle.spec_instructions.specs.Encodeset.{ItemKind, Bits, Field, ShouldBeBits, text_at, item_kind, item_kind_named, is_range, number_at, number_events, range_events, pattern_events, value_events, range_and_value, mask_events, width_of, item_parts, within_limits, names_of_kind, field_names, item_events}
-use Rattle.spec_instructions.specs.EncodesetItems.{digits_at, marked_by, start_of, item_in}
+use Rattle.spec_walk.specs.Event.{TooMany}
+use Rattle.spec_walk.specs.Walk.{Walk, Done, ◌>>>◌, gives}
+use Rattle.spec_walk.specs.Spot.{Spot, spot, kind, unless, elements, each}
+use Rattle.spec_instructions.specs.Encodeset.{ItemKind, item_kind_named, item_parts, item, within_limits, named_in}
 use Rattle.mrs_names.specs.declared.name_id.NameId.{NameId}
 use Rattle.mrs_arena.specs.declared.item.Item as arena
-use Rattle.mrs_arena.specs.Placed.{text_of, item_of, Placed}
+use Rattle.mrs_arena.specs.Placed.{Placed, item_of, text_of}
 use Rattle.mrs_arena.specs.Views.{flat_item}
-use Rattle.mrs_schema.specs.Drafted.{Drafted, counts, last_items, last_named, with_items, Steps}
-use Rattle.mrs_schema.specs.Gives.{first_wrong, Fails}
-use Rattle.mrs_schema.specs.Items.{names_of, masked_item, should_be_item, item_of_kind, IsReadItem}
-use Rattle.mrs_schema.specs.declared.fault.ReadFault.{ReadFault}
-use Rattle.mrs_schema.specs.Members.{members_of}
-use Rattle.mrs_schema.proofs.WalkLaws.{IsPlain, judged-next}
-use Rattle.mrs_schema.proofs.StepLaws.{Stops, Stops-same, Stops-first, Passes-same, Passes-weaker}
-use Rattle.mrs_schema.proofs.PlainLaws.{plain-wrong, plain-unless, plain-append, plain-in_object, plain-in_text, plain-needed, plain-optional, plain-typed}
-use Rattle.mrs_schema.proofs.SplitLaws.{Splits, Splits-stops, Splits-passes, splits-end, splits-in_object}
+use Rattle.mrs_walk.specs.Gives.{Fails, Ends, Puts}
+use Rattle.mrs_walk.specs.declared.fault.ReadFault.{ReadFault}
+use Rattle.mrs_walk.proofs.AnswerLaws.{Fails-same, Puts-then, Puts-same, Puts-last}
+use Rattle.mrs_schema.specs.Drafted.{Drafted, counts, last_items, last_named, with_items}
+use Rattle.mrs_schema.specs.Parts.{IsRead}
+use Rattle.mrs_walk.proofs.EachLaws.{EachRead, EachRead-none, EachRead-next, EachRead-fails, EachRead-all}
+use Rattle.mrs_names.specs.Texts.{IsExtended}
+use Rattle.mrs_arena.proofs.NodeLaws.{count_by-append}
+use Rattle.mrs_names.proofs.PlaceLaws.{IsExtended-refl, IsExtended-trans}
+use Rattle.mrs_schema.proofs.PlacedLaws.{length-with_items, last_items-with_items, last_named-with_items, with_items-none, with_items-more}
 
--- ---- walks that put nothing
+-- what stands behind the parts of an item
+abbrev finish : ℕ → List Item → Spot → Item → Walk Item
+finish named earlier here it = unless (within_limits (length earlier) (named + length (option_to_list it.name))) here TooMany >>> λ _. Done it
 
-plain-number : (key : List ℕ) (at : List ℕ) (ms : Members) → IsPlain (needed key number_events at ms)
-plain-number key at ms = plain-needed key number_events at ms (λ d. plain-unless (is_some (whole_number 4294967296 d)) _ WrongShape)
+item-kind : (named : ℕ) (earlier : List Item) (here : Spot) (k : ItemKind) → kind item_kind_named here ≡ Done k → item named earlier here ≡ item_parts earlier here k >>> finish named earlier here
+item-kind named earlier here k h = ap (λ (w : Walk ItemKind). w >>> item_parts earlier here >>> finish named earlier here) h
 
-plain-range : (at : List ℕ) (d : Data) → IsPlain (range_events at d)
-plain-range at d = plain-in_object (λ place ms. start place ms ++ (width place ms ++ fits place)) at d (λ ms. plain-append (start at ms) (width at ms ++ fits at) (plain-number (codes "start") at ms) (plain-append (width at ms) (fits at) (plain-number (codes "width") at ms) (plain-unless _ at BadRange)))
-  where
-    start : List ℕ → Members → List Event
-    start place ms = needed (codes "start") number_events place ms
-
-    width : List ℕ → Members → List Event
-    width place ms = needed (codes "width") number_events place ms
-
-    fits : List ℕ → List Event
-    fits place = unless (is_range (number_at (codes "start") d) (number_at (codes "width") d)) place BadRange
-
-plain-pattern : (width : ℕ) (at : List ℕ) (r : Result (List Digit) PatternRefusal) → IsPlain (pattern_events width at r)
-plain-pattern width at (Ok digits) = plain-unless _ at BadRange
-plain-pattern width at (Err refusal) = plain-wrong at (BadPattern refusal)
-
-plain-value : (width : ℕ) (at : List ℕ) (d : Data) → IsPlain (value_events width at d)
-plain-value width at d = plain-in_object (λ place ms. kind place ms ++ value place ms) at d (λ ms. plain-append (kind at ms) (value at ms) (plain-typed _ at ms)
-    (plain-needed (codes "value") (in_text (λ text_place s. pattern_events width text_place (pattern_in s))) at ms (λ e. plain-in_text (λ text_place s. pattern_events width text_place (pattern_in s)) _ e (λ s. plain-pattern width _ (pattern_in s)))))
-  where
-    kind : List ℕ → Members → List Event
-    kind place ms = typed (bytes_eq (codes "Values.Value")) place ms
-
-    value : List ℕ → Members → List Event
-    value place ms = needed (codes "value") (in_text (λ text_place s. pattern_events width text_place (pattern_in s))) place ms
-
-plain-range_and_value : (at : List ℕ) (d : Data) (ms : Members) → IsPlain (range_and_value at d ms)
-plain-range_and_value at d ms = plain-append (needed (codes "range") range_events at ms) (needed (codes "value") (value_events (width_of d)) at ms)
-    (plain-needed (codes "range") range_events at ms (λ e. plain-range _ e)) (plain-needed (codes "value") (value_events (width_of d)) at ms (λ e. plain-value (width_of d) _ e))
-
-plain-mask : (at : List ℕ) (d : Data) (ms : Members) → IsPlain (mask_events at d ms)
-plain-mask at d ms = plain-optional (codes "should_be_mask") (value_events (width_of d)) at ms (λ e. plain-value (width_of d) _ e)
-
-pub plain-bits : (at : List ℕ) (d : Data) (ms : Members) → IsPlain (range_and_value at d ms ++ mask_events at d ms)
-plain-bits at d ms = plain-append (range_and_value at d ms) (mask_events at d ms) (plain-range_and_value at d ms) (plain-mask at d ms)
-
-pub plain-should_be : (at : List ℕ) (d : Data) (ms : Members) → IsPlain (range_and_value at d ms)
-plain-should_be at d ms = plain-range_and_value at d ms
-
--- ---- the walk over an item
-
-pub splits-item : (place named : ℕ) (earlier : List (List ℕ)) (at : List ℕ) (d : Data)
-    → Splits (item_events place named earlier at d) (in_object (typed (λ s. is_some (item_kind_named s))) at d) (item_parts earlier at d (members_of d) (item_kind d) ++ within_limits place (named + length (field_names d)) at)
-splits-item place named earlier at d =
-    splits-in_object (λ at ms. typed (λ s. is_some (item_kind_named s)) at ms ++ (item_parts earlier at d ms (item_kind d) ++ within_limits place (named + length (field_names d)) at)) (typed (λ s. is_some (item_kind_named s)))
-    (item_parts earlier at d (members_of d) (item_kind d) ++ within_limits place (named + length (field_names d)) at) at d
-    (splits-end (typed (λ s. is_some (item_kind_named s)) at (members_of d)) (item_parts earlier at d (members_of d) (item_kind d) ++ within_limits place (named + length (field_names d)) at) (plain-typed _ at (members_of d)))
-
--- ---- items that are read
-
--- an item by its name, its digits marked by the mask
-abbrev masked : Option (List ℕ) → Data → Item
-masked name d = record { name = name; start = start_of (get (codes "range") d); digits = digits_at (codes "value") d; marks = marked_by (digits_at (codes "value") d) (digits_at (codes "should_be_mask") d) }
-
-if_named : (o : Option NameId) (name : NameId) (P : NameId → Type 0) → o ≡ Some name → P name → IfSome o P
-if_named o name P is p = subst (λ (x : Option NameId). IfSome x P) (sym is) p
-
-if_none : (o : Option NameId) (P : NameId → Type 0) → o ≡ None → IfSome o P
-if_none o P is = subst (λ (x : Option NameId). IfSome x P) (sym is) tt
-
-pub field_read : (d : Data) (names : List (List ℕ)) (items : List Item) (name : NameId) (it : arena.Item) → name.0 < length names → text_at (codes "name") d ≡ Some (text_of names name.0)
-    → list_any (bytes_eq (text_of names name.0)) (names_of items) ≡ false → it.name ≡ Some name → flat_item it ≡ masked_item (Some name.0) d → IsReadItem Field d names items it
-field_read d names items name it held text free is same = record {
-  item = ap (item_of names) same ∙ ap (λ o. masked o d) (sym text);
-  named = ap (λ o. length (option_to_list o)) is ∙ ap (λ o. length (option_to_list o)) (sym text);
-  held = if_named it.name name (λ id. id.0 < length names) is held;
-  free = if_named it.name name (λ id. list_any (bytes_eq (text_of names id.0)) (names_of items) ≡ false) is free;
-}
-
-pub bits_read : (d : Data) (names : List (List ℕ)) (items : List Item) (it : arena.Item) → it.name ≡ None → flat_item it ≡ masked_item None d → IsReadItem Bits d names items it
-bits_read d names items it is same = record {
-  item = ap (item_of names) same;
-  named = ap (λ o. length (option_to_list o)) is;
-  held = if_none it.name (λ id. id.0 < length names) is;
-  free = if_none it.name (λ id. list_any (bytes_eq (text_of names id.0)) (names_of items) ≡ false) is;
-}
-
-pub should_be_read : (d : Data) (names : List (List ℕ)) (items : List Item) (it : arena.Item) → it.name ≡ None → flat_item it ≡ should_be_item d → IsReadItem ShouldBeBits d names items it
-should_be_read d names items it is same = record {
-  item = ap (item_of names) same;
-  named = ap (λ o. length (option_to_list o)) is;
-  held = if_none it.name (λ id. id.0 < length names) is;
-  free = if_none it.name (λ id. list_any (bytes_eq (text_of names id.0)) (names_of items) ≡ false) is;
-}
-
--- ---- reading an item
-
--- no kind of item
-pub item_stops-kind : (e : ReadFault) (place named : ℕ) (earlier : List (List ℕ)) (at : List ℕ) (d : Data) (c : Counts) → Fails e (first_wrong (in_object (typed (λ s. is_some (item_kind_named s))) at d)) → Stops e (judged (item_events place named earlier at d) c)
-item_stops-kind e place named earlier at d c h =
-    Splits-stops e (splits-item place named earlier at d) c h
-
--- the walk behind the kind
-item_of_listed : (place named : ℕ) (earlier : List (List ℕ)) (at : List ℕ) (d : Data) (kind : ItemKind) (c : Counts) → first_wrong (in_object (typed (λ s. is_some (item_kind_named s))) at d) ≡ None → item_kind d ≡ Some kind
-    → judged (item_events place named earlier at d) c ≡ judged (item_parts earlier at d (members_of d) (Some kind) ++ within_limits place (named + length (names_of_kind d (Some kind))) at) c
-item_of_listed place named earlier at d kind c listed is =
-    Splits-passes (splits-item place named earlier at d) c listed
-    ∙ ap (λ k. judged (item_parts earlier at d (members_of d) k ++ within_limits place (named + length (names_of_kind d k)) at) c) is
-
--- a fault of a part
-pub item_stops-parts : (e : ReadFault) (place named : ℕ) (earlier : List (List ℕ)) (at : List ℕ) (d : Data) (kind : ItemKind) (c : Counts) → first_wrong (in_object (typed (λ s. is_some (item_kind_named s))) at d) ≡ None → item_kind d ≡ Some kind
-    → Stops e (judged (item_parts earlier at d (members_of d) (Some kind)) c) → Stops e (judged (item_events place named earlier at d) c)
-item_stops-parts e place named earlier at d kind c listed is h =
-    Stops-same e _ _ (item_of_listed place named earlier at d kind c listed is)
-    (Stops-first e (item_parts earlier at d (members_of d) (Some kind)) (within_limits place (named + length (names_of_kind d (Some kind))) at) c h)
+named_alike : (names : List (List ℕ)) (o : Option NameId) (it : Item) → it.name ≡ option_map (text_of names) (option_map (λ id. id.0) o) → length (option_to_list o) ≡ length (option_to_list it.name)
+named_alike names None it is = ap (λ n. length (option_to_list n)) (sym is)
+named_alike names (Some id) it is = ap (λ n. length (option_to_list n)) (sym is)
 
 -- an item that is put, or one too many
-pub item_returns : {T : Type 0} (r : Result T ReadFault) (old mid new : Drafted) (at : List ℕ) (d : Data) (kind : ItemKind) (it : arena.Item) → first_wrong (in_object (typed (λ s. is_some (item_kind_named s))) at d) ≡ None → item_kind d ≡ Some kind
-    → judged (item_parts (names_of (last_items old.nodes)) at d (members_of d) (Some kind)) (counts old) ≡ Ok (counts mid) → IsReadItem kind d mid.names (last_items old.nodes) it → mid.nodes ≡ old.nodes
-    → Steps r mid new (within_limits (length (last_items mid.nodes)) (last_named mid.nodes + length (option_to_list it.name)) at) (λ _. new.nodes ≡ with_items (item_of mid.names (flat_item it) ∷ []) mid.nodes)
-    → Steps r old new (item_events (length (last_items old.nodes)) (last_named old.nodes) (names_of (last_items old.nodes)) at d) (λ _. new.nodes ≡ with_items (item_in d ∷ []) old.nodes)
-item_returns r old mid new at d kind it listed is parts read same h =
-    Passes-same r (judged limits (counts mid)) (judged (item_events place named earlier at d) (counts old)) (counts new) (λ _. new.nodes ≡ with_items (item_in d ∷ []) old.nodes)
-    (item_of_listed place named earlier at d kind (counts old) listed is ∙ judged-next (item_parts earlier at d (members_of d) (Some kind)) limits (counts old) (counts mid) parts)
-    (Passes-same r (judged (limits_at mid.nodes (length (option_to_list it.name))) (counts mid)) (judged limits (counts mid)) (counts new) (λ _. new.nodes ≡ with_items (item_in d ∷ []) old.nodes)
-    (ap (λ nodes. judged (limits_at nodes (length (names_of_kind d (Some kind)))) (counts mid)) (sym same) ∙ ap (λ n. judged (limits_at mid.nodes n) (counts mid)) (sym read.named))
-    (Passes-weaker r (judged (limits_at mid.nodes (length (option_to_list it.name))) (counts mid)) (counts new) (λ _. new.nodes ≡ with_items (item_of mid.names (flat_item it) ∷ []) mid.nodes) (λ _. new.nodes ≡ with_items (item_in d ∷ []) old.nodes)
-    (λ x put. put ∙ ap (λ nodes. with_items (item_of mid.names (flat_item it) ∷ []) nodes) same ∙ ap (λ i. with_items (i ∷ []) old.nodes) (read.item ∙ ap (λ k. item_of_kind k d) (sym is))) h))
+pub item_returns : {T : Type 0} (r : Result T ReadFault) (old mid new : Drafted) (here : Spot) (k : ItemKind) (x : arena.Item) → kind item_kind_named here ≡ Done k
+    → Ends (item_parts (last_items old.nodes) here k) (counts old) (counts mid) (λ it. IsRead it mid.names (last_items old.nodes) x) → mid.nodes ≡ old.nodes
+    → Puts r (unless (within_limits (length (last_items mid.nodes)) (last_named mid.nodes + length (option_to_list x.name))) here TooMany) (counts mid) (counts new) (λ _ _. new.nodes ≡ with_items (item_of mid.names (flat_item x) ∷ []) mid.nodes)
+    → Puts r (item (last_named old.nodes) (last_items old.nodes) here) (counts old) (counts new) (λ it _. new.nodes ≡ with_items (it ∷ []) old.nodes)
+item_returns r old mid new here k x is parts same put =
+    Puts-same r _ _ (counts old) (counts new) _ (item-kind (last_named old.nodes) (last_items old.nodes) here k is)
+    (Puts-then r (item_parts (last_items old.nodes) here k) (finish (last_named old.nodes) (last_items old.nodes) here) it (counts old) (counts mid) (counts new) (λ it _. new.nodes ≡ with_items (it ∷ []) old.nodes) parts.walked
+    (Puts-last r (test old.nodes (length (option_to_list it.name))) (λ _. it) (counts mid) (counts new) (λ _ _. new.nodes ≡ with_items (item_of mid.names (flat_item x) ∷ []) mid.nodes) (λ it _. new.nodes ≡ with_items (it ∷ []) old.nodes)
+    (λ a y p. p ∙ ap (λ i. with_items (i ∷ []) mid.nodes) parts.stands.item ∙ ap (λ nodes. with_items (it ∷ []) nodes) same)
+    (Puts-same r (test mid.nodes (length (option_to_list x.name))) (test old.nodes (length (option_to_list it.name))) (counts mid) (counts new) _
+    (ap (λ nodes. test nodes (length (option_to_list it.name))) (sym same) ∙ ap (test mid.nodes) (sym (named_alike mid.names x.name it (ap (λ i. i.name) (sym parts.stands.item))))) put)))
   where
-    place : ℕ
-    place = length (last_items old.nodes)
+    it : Item
+    it = parts.value
 
-    named : ℕ
-    named = last_named old.nodes
+    test : List Placed → ℕ → Walk Unit
+    test nodes n = unless (within_limits (length (last_items nodes)) (last_named nodes + n)) here TooMany
 
-    earlier : List (List ℕ)
-    earlier = names_of (last_items old.nodes)
+-- ---- the loop
 
-    limits_at : List Placed → ℕ → List Event
-    limits_at nodes n = within_limits (length (last_items nodes)) (last_named nodes + n) at
+-- how far the items are read, which stand at the last node
+pub record ItemsRead (at : List ℕ) (old now : Drafted) (i : ℕ) (vs : List Value) : Type 0 where
+  pub some : 0 < length now.nodes
+  pub each : EachRead (λ earlier. item (last_named old.nodes + named_in earlier) earlier) at (last_items now.nodes) (counts old) (counts now) i vs
+  pub named : last_named now.nodes ≡ last_named old.nodes + named_in (last_items now.nodes)
+  pub put : now.nodes ≡ with_items (last_items now.nodes) old.nodes
+  pub kept : IsExtended old.names now.names
 
-    limits : List Event
-    limits = within_limits place (named + length (names_of_kind d (Some kind))) at
+pub ItemsRead-none : (at : List ℕ) (old : Drafted) (vs : List Value) → 0 < length old.nodes → last_items old.nodes ≡ [] → ItemsRead at old old 0 vs
+ItemsRead-none at old vs some bare = record {
+  some = some;
+  each = subst (λ (items : List Item). EachRead (λ earlier. item (last_named old.nodes + named_in earlier) earlier) at items (counts old) (counts old) 0 vs) (sym bare) (EachRead-none _ at (counts old) vs);
+  named = sym (ap (λ items. last_named old.nodes + named_in items) bare ∙ add-zero (last_named old.nodes));
+  put = sym (ap (λ items. with_items items old.nodes) bare ∙ with_items-none old.nodes);
+  kept = IsExtended-refl old.names;
+}
+
+pub ItemsRead-next : {at : List ℕ} {old now : Drafted} {i : ℕ} {vs : List Value} → ItemsRead at old now i vs → (v : Value) → i < length vs → v ≡ get_or vs i v → (here : Spot) → here ≡ spot (element at i) (view v) → (new : Drafted)
+    → Ends (item (last_named now.nodes) (last_items now.nodes) here) (counts now) (counts new) (λ it. new.nodes ≡ with_items (it ∷ []) now.nodes) → IsExtended now.names new.names → ItemsRead at old new (i + 1) vs
+ItemsRead-next {at} {old} {now} {i} {vs} r v within is here at_it new ends more = record {
+  some = omega (arith, r.some, ap length ends.stands, length-with_items one now.nodes);
+  each = subst (λ (xs : List Item). EachRead (λ earlier. item (last_named old.nodes + named_in earlier) earlier) at xs (counts old) (counts new) (i + 1) vs) (sym items)
+      (EachRead-next r.each v within is here at_it it (counts new) (ap (λ n. gives (item n (last_items now.nodes) here) (counts now)) (sym r.named) ∙ ends.walked));
+  named =
+      ap last_named ends.stands ∙ last_named-with_items one now.nodes r.some ∙ ap (λ n. n + named_in one) r.named
+      ∙ add_assoc (last_named old.nodes) (named_in (last_items now.nodes)) (named_in one)
+      ∙ ap (λ n. last_named old.nodes + n) (sym (count_by-append (λ it. is_some it.name) (last_items now.nodes) one) ∙ ap named_in (sym items));
+  put = ends.stands ∙ ap (with_items one) r.put ∙ with_items-more (last_items now.nodes) one old.nodes ∙ ap (λ its. with_items its old.nodes) (sym items);
+  kept = IsExtended-trans old.names now.names new.names r.kept more;
+}
+  where
+    it : Item
+    it = ends.value
+
+    one : List Item
+    one = it ∷ []
+
+    items : last_items new.nodes ≡ last_items now.nodes ++ one
+    items = ap last_items ends.stands ∙ last_items-with_items one now.nodes r.some
+
+pub ItemsRead-fails : {at : List ℕ} {old now : Drafted} {i : ℕ} {vs : List Value} → ItemsRead at old now i vs → (v : Value) → i < length vs → v ≡ get_or vs i v → (here : Spot) → here ≡ spot (element at i) (view v) → (e : ReadFault)
+    → Fails e (gives (item (last_named now.nodes) (last_items now.nodes) here) (counts now)) → Fails e (gives (each (λ earlier. item (last_named old.nodes + named_in earlier) earlier) at [] (items_view vs)) (counts old))
+ItemsRead-fails {at} {old} {now} {i} {vs} r v within is here at_it e h =
+    EachRead-fails r.each v within is here at_it e (subst (λ (n : ℕ). Fails e (gives (item n (last_items now.nodes) here) (counts now))) r.named h)
+
+-- an array of items
+abbrev pub elements_walk : Drafted → Spot → Walk (List Item)
+elements_walk old here = elements here >>> each (λ earlier. item (last_named old.nodes + named_in earlier) earlier) here.at []
+
+array_is : (old : Drafted) (here : Spot) (ds : Items) → elements here ≡ Done ds → elements_walk old here ≡ each (λ earlier. item (last_named old.nodes + named_in earlier) earlier) here.at [] ds
+array_is old here ds h = ap (λ w. w >>> each (λ earlier. item (last_named old.nodes + named_in earlier) earlier) here.at []) h
+
+pub items_fail : (e : ReadFault) (old : Drafted) (here : Spot) (vs : List Value) → elements here ≡ Done (items_view vs) → Fails e (gives (each (λ earlier. item (last_named old.nodes + named_in earlier) earlier) here.at [] (items_view vs)) (counts old)) → Fails e (gives (elements_walk old here) (counts old))
+items_fail e old here vs h fails = Fails-same e _ _ (ap (λ w. gives w (counts old)) (array_is old here (items_view vs) h)) fails
+
+pub items_return : (old now : Drafted) (here : Spot) (i : ℕ) (vs : List Value) → elements here ≡ Done (items_view vs) → ItemsRead here.at old now i vs → length vs ≤ i → Ends (elements_walk old here) (counts old) (counts now) (λ items. now.nodes ≡ with_items items old.nodes)
+items_return old now here i vs h r past = record {
+  value = last_items now.nodes;
+  walked = ap (λ w. gives w (counts old)) (array_is old here (items_view vs) h) ∙ EachRead-all r.each past;
+  stands = r.put;
+}

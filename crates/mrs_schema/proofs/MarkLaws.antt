@@ -5,7 +5,7 @@ use Rattle.spec_bits.specs.Bits.{bit_of}
 use Rattle.spec_bits.specs.Pattern.{Zero, One, Either}
 use Rattle.bit_pattern.specs.Digits.{digit_at, digits_below}
 use Rattle.bit_pattern.proofs.DigitLaws.{BitPair, free, fixed_0, fixed_1, BitPair-at}
-use Rattle.spec_instructions.specs.EncodesetItems.{is_binary, is_one, marked_by}
+use Rattle.spec_instructions.specs.Encodeset.{is_binary, is_one, marked_by}
 use Rattle.bit_pattern.specs.Marks.{marks_of}
 
 binary-bit : (m v : ℕ) → BitPair m v → (m == 1) ≡ is_binary (cond (m == 0) Either (cond (v == 0) Zero One))

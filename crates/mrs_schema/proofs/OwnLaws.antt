@@ -1,68 +1,24 @@
--- Laws of the walk over what a node says of itself, and of the node that is put.
-use Rattle.std.proofs.Common.{◌≡◌, ◌∙◌, sym, ap, refl, ℕ, ◌+◌, ◌-◌, List, [], ◌∷◌, ◌++◌, length, length-append, add-zero, Option, Some, None, unwrap_or, Ok, codes, arith}
-use Rattle.serde_json.specs.Data.{Data, null, boolean, number, string, array, object, Members}
-use Rattle.serde_json.specs.Find.{get}
-use Rattle.spec_walk.specs.Pointer.{under}
-use Rattle.spec_walk.specs.Event.{Event, NotYet}
-use Rattle.spec_walk.specs.Limits.{Counts, judged}
-use Rattle.spec_walk.specs.Members.{wrong, in_text, needed, optional}
+-- Laws of what a node says of itself.
+use Rattle.std.proofs.Common.{◌≡◌, ◌∙◌, sym, ap, refl, ℕ, ◌+◌, ◌<◌, List, [], ◌∷◌, ◌++◌, length, add-zero, Option, Some, None, unwrap_or, Ok, codes, arith}
+use Rattle.spec_bits.specs.Item.{Item}
+use Rattle.spec_walk.specs.Limits.{Counts}
 use Rattle.spec_instructions.specs.Kind.{Kind}
-use Rattle.spec_instructions.specs.Encodeset.{text_at, encodeset_events}
-use Rattle.spec_instructions.specs.EncodesetItems.{encodeset_items}
-use Rattle.spec_instructions.specs.Walk.{name_events, counted, own_events}
-use Rattle.spec_instructions.specs.Tree.{Own, own_of}
+use Rattle.spec_instructions.specs.Tree.{Own, bare}
+use Rattle.spec_walk.specs.Walk.{Walk, Done, ◌>>>◌, gives}
+use Rattle.spec_walk.specs.Spot.{Spot, named, optional}
+use Rattle.spec_walk.proofs.WalkLaws.{gives-next}
+use Rattle.spec_instructions.specs.Encodeset.{encodeset, named_in}
+use Rattle.spec_instructions.specs.Walk.{node_name, counted, condition, own}
 use Rattle.mrs_arena.specs.Paths.{IsPlace}
-use Rattle.mrs_arena.specs.Placed.{Placed}
-use Rattle.mrs_schema.specs.Above.{named_above}
-use Rattle.mrs_schema.specs.Drafted.{parents, named_in, named_at, last_named, with_items}
-use Rattle.mrs_schema.specs.Members.{members_of, present}
-use Rattle.mrs_schema.specs.declared.fault.ReadFault.{ReadFault}
-use Rattle.mrs_schema.proofs.WalkLaws.{IsPlain, judged-next}
-use Rattle.mrs_schema.proofs.PlainLaws.{plain-wrong, plain-optional}
-use Rattle.mrs_schema.proofs.StepLaws.{Stops, Stops-same, Stops-first}
-use Rattle.mrs_schema.proofs.MemberLaws.{there, optional-there}
-use Rattle.mrs_schema.proofs.PlacedLaws.{place_within, named_new, named_root, with_items-last}
+use Rattle.mrs_arena.specs.Placed.{Placed, text_of}
+use Rattle.mrs_walk.specs.Gives.{Fails, Ends}
+use Rattle.mrs_walk.specs.declared.fault.ReadFault.{ReadFault}
+use Rattle.mrs_walk.proofs.AnswerLaws.{Fails-then, Fails-same}
+use Rattle.mrs_schema.specs.Drafted.{Drafted, counts, parents, named_at, last_named, with_items}
+use Rattle.mrs_schema.specs.Nodes.{named_above}
+use Rattle.mrs_schema.proofs.PlacedLaws.{place_within, named_new, named_root, last_number, with_items-last}
 
--- ---- the walk, part by part
-
-abbrev pub name_part : List ℕ → Members → List Event
-name_part at ms = needed (codes "name") (in_text (name_events at)) at ms
-
-abbrev pub encoding_part : ℕ → List ℕ → Members → List Event
-encoding_part named at ms = optional (codes "encoding") (encodeset_events named) at ms
-
-abbrev pub condition_part : List ℕ → Members → List Event
-condition_part at ms = optional (codes "condition") (λ place d. wrong place NotYet) at ms
-
-pub plain-condition : (at : List ℕ) (ms : Members) → IsPlain (condition_part at ms)
-plain-condition at ms = plain-optional (codes "condition") (λ place d. wrong place NotYet) at ms (λ d. plain-wrong _ NotYet)
-
--- how far the parts are walked: up to the node, and up to the items
-pub record IsNodeWalked (kind : Kind) (at : List ℕ) (ms : Members) (old named_then node_then : Counts) : Type 0 where
-  pub name : judged (name_part at ms) old ≡ Ok named_then
-  pub node : judged (counted kind at) named_then ≡ Ok node_then
-
-own_named : (kind : Kind) (named : ℕ) (at : List ℕ) (ms : Members) (c d : Counts) → judged (name_part at ms) c ≡ Ok d → judged (own_events kind named at ms) c ≡ judged (counted kind at ++ (encoding_part named at ms ++ condition_part at ms)) d
-own_named kind named at ms c d h = judged-next (name_part at ms) (counted kind at ++ (encoding_part named at ms ++ condition_part at ms)) c d h
-
-pub own_stops-node : (e : ReadFault) (kind : Kind) (named : ℕ) (at : List ℕ) (ms : Members) (c d : Counts) → judged (name_part at ms) c ≡ Ok d → Stops e (judged (counted kind at) d) → Stops e (judged (own_events kind named at ms) c)
-own_stops-node e kind named at ms c d name h = Stops-same e _ _ (own_named kind named at ms c d name) (Stops-first e (counted kind at) (encoding_part named at ms ++ condition_part at ms) d h)
-
-own_node : (kind : Kind) (named : ℕ) (at : List ℕ) (ms : Members) {b c d : Counts} → IsNodeWalked kind at ms b c d → judged (own_events kind named at ms) b ≡ judged (encoding_part named at ms ++ condition_part at ms) d
-own_node kind named at ms {b} {c} {d} w = own_named kind named at ms b c w.name ∙ judged-next (counted kind at) (encoding_part named at ms ++ condition_part at ms) c d w.node
-
-pub own_stops-encoding : (e : ReadFault) {kind : Kind} (named : ℕ) {at : List ℕ} {ms : Members} {b c d : Counts} → IsNodeWalked kind at ms b c d → Stops e (judged (encoding_part named at ms) d) → Stops e (judged (own_events kind named at ms) b)
-own_stops-encoding e {kind} named {at} {ms} {b} {c} {d} w h = Stops-same e _ _ (own_node kind named at ms w) (Stops-first e (encoding_part named at ms) (condition_part at ms) d h)
-
-pub own_read : {kind : Kind} (named : ℕ) {at : List ℕ} {ms : Members} {b c d : Counts} → IsNodeWalked kind at ms b c d → (after : Counts) → judged (encoding_part named at ms) d ≡ Ok after → judged (own_events kind named at ms) b ≡ judged (condition_part at ms) after
-own_read {kind} named {at} {ms} {b} {c} {d} w after h = own_node kind named at ms w ∙ judged-next (encoding_part named at ms) (condition_part at ms) d after h
-
--- ---- the node that is put
-
-last_number : (nodes : List Placed) (x : Placed) → length (nodes ++ x ∷ []) - 1 ≡ length nodes
-last_number nodes x = omega (arith, length-append nodes (x ∷ []))
-
-pub parents-empty : (nodes : List Placed) → parents nodes ≡ [] → nodes ≡ []
+parents-empty : (nodes : List Placed) → parents nodes ≡ [] → nodes ≡ []
 parents-empty [] h = refl
 parents-empty (p ∷ nodes) h = absurd (cc)
 
@@ -76,41 +32,94 @@ named_at-new nodes (Some p) own h =
     let new = named_new nodes own p (place_within nodes p h) in
     omega arith
 
-pub last_named-new : (nodes : List Placed) (parent : Option ℕ) (own : Own) → IsPlace (parents nodes) parent → last_named (nodes ++ record { parent = parent; own = own } ∷ []) ≡ named_above nodes parent + named_in own.items
+last_named-new : (nodes : List Placed) (parent : Option ℕ) (own : Own) → IsPlace (parents nodes) parent → last_named (nodes ++ record { parent = parent; own = own } ∷ []) ≡ named_above nodes parent + named_in own.items
 last_named-new nodes parent own h = ap (named_at (nodes ++ record { parent = parent; own = own } ∷ [])) (last_number nodes (record { parent = parent; own = own })) ∙ named_at-new nodes parent own h
 
--- the node with its name and items
-pub own_put : (old named_then node_then after : List Placed) (parent : Option ℕ) (kind : Kind) (name : List ℕ) (d : Data) → named_then ≡ old → node_then ≡ named_then ++ record { parent = parent; own = record { kind = kind; name = name; items = [] } } ∷ []
-    → after ≡ with_items (encodeset_items (get (codes "encoding") d)) node_then → text_at (codes "name") d ≡ Some name → after ≡ old ++ record { parent = parent; own = own_of kind d } ∷ []
-own_put old named_then node_then after parent kind name d same put items text =
-    items
-    ∙ ap (with_items (encodeset_items (get (codes "encoding") d))) (put ∙ ap (λ nodes. nodes ++ record { parent = parent; own = record { kind = kind; name = name; items = [] } } ∷ []) same)
-    ∙ with_items-last (encodeset_items (get (codes "encoding") d)) old (record { parent = parent; own = record { kind = kind; name = name; items = [] } })
-    ∙ ap (λ o. old ++ record { parent = parent; own = record { kind = kind; name = unwrap_or o []; items = encodeset_items (get (codes "encoding") d) } } ∷ []) (sym text)
+-- ---- the walk, behind the node's name and count
 
--- ---- an encodeset that may be absent
+-- a node that says no more than its kind, its name and its items
+abbrev with_own : Kind → List ℕ → List Item → Own
+with_own k name items = record (bare k name) { items = items }
 
-pub absent-items : (o : Option Data) → present o ≡ None → encodeset_items o ≡ []
-absent-items None h = refl
-absent-items (Some null) h = refl
-absent-items (Some (boolean b)) h = absurd (cc)
-absent-items (Some (number n)) h = absurd (cc)
-absent-items (Some (string s)) h = absurd (cc)
-absent-items (Some (array ds)) h = absurd (cc)
-absent-items (Some (object ms)) h = absurd (cc)
+abbrev pub refused : Spot → Walk (Option Unit)
+refused here = optional (codes "condition") condition here
 
-pub no_encoding : (named : ℕ) (at : List ℕ) (d : Data) (c : Counts) → present (get (codes "encoding") d) ≡ None → judged (encoding_part named at (members_of d)) c ≡ Ok c
-no_encoding named at d c h =
-    ap (λ es. judged es c) (optional-there (codes "encoding") (encodeset_events named) at d ∙ ap (λ o. there o (encodeset_events named (under at (codes "encoding")))) h)
+abbrev ended : Kind → List ℕ → Spot → Option (List Item) → Walk Own
+ended k name here items = refused here >>> λ _. Done (with_own k name (unwrap_or items []))
 
-pub an_encoding : (named : ℕ) (at : List ℕ) (d e : Data) (c : Counts) → present (get (codes "encoding") d) ≡ Some e → judged (encoding_part named at (members_of d)) c ≡ judged (encodeset_events named (under at (codes "encoding")) e) c
-an_encoding named at d e c h =
-    ap (λ es. judged es c) (optional-there (codes "encoding") (encodeset_events named) at d ∙ ap (λ o. there o (encodeset_events named (under at (codes "encoding")))) h)
+abbrev encoded : Kind → ℕ → Spot → List ℕ → Walk Own
+encoded k above here name = optional (codes "encoding") (encodeset above) here >>> ended k name here
 
--- behind a node without items as many items are named as above it
-pub last_named-bare : (old named_then node_then : List Placed) (parent : Option ℕ) (kind : Kind) (name : List ℕ) → IsPlace (parents old) parent → named_then ≡ old → node_then ≡ named_then ++ record { parent = parent; own = record { kind = kind; name = name; items = [] } } ∷ []
-    → last_named node_then ≡ named_above old parent
-last_named-bare old named_then node_then parent kind name place same put =
-    ap last_named (put ∙ ap (λ nodes. nodes ++ record { parent = parent; own = record { kind = kind; name = name; items = [] } } ∷ []) same)
-    ∙ last_named-new old parent (record { kind = kind; name = name; items = [] }) place
-    ∙ add-zero (named_above old parent)
+-- a node is put: its name is held, and it is counted
+pub record IsNamed (here : Spot) (k : Kind) (text name : List ℕ) (c d e : Counts) : Type 0 where
+  pub text_is : node_name here ≡ Done text
+  pub named : gives (named here text) c ≡ Ok (name, d)
+  pub counted : gives (counted k here) d ≡ Ok (tt, e)
+
+own_behind : {here : Spot} {k : Kind} {text name : List ℕ} {c d e : Counts} → IsNamed here k text name c d e → (above : ℕ) → gives (own k above here) c ≡ gives (encoded k above here name) e
+own_behind {here} {k} {text} {name} {c} {d} {e} n above =
+    ap (λ (w : Walk (List ℕ)). gives (w >>> named here >>> λ name. counted k here >>> λ _. encoded k above here name) c) n.text_is
+    ∙ gives-next (named here text) (λ name. counted k here >>> λ _. encoded k above here name) c d name n.named
+    ∙ gives-next (counted k here) (λ _. encoded k above here name) d e tt n.counted
+
+own_fails-encoding : {here : Spot} {k : Kind} {text name : List ℕ} {c d e : Counts} → IsNamed here k text name c d e → (above : ℕ) (f : ReadFault) → Fails f (gives (optional (codes "encoding") (encodeset above) here) e) → Fails f (gives (own k above here) c)
+own_fails-encoding {here} {k} {text} {name} {c} {d} {e} n above f h = Fails-same f _ _ (own_behind n above) (Fails-then f (optional (codes "encoding") (encodeset above) here) (ended k name here) e h)
+
+own_last : {here : Spot} {k : Kind} {text name : List ℕ} {c d e : Counts} → IsNamed here k text name c d e → (above : ℕ) (items : Option (List Item)) (after : Counts) → gives (optional (codes "encoding") (encodeset above) here) e ≡ Ok (items, after) → gives (own k above here) c ≡ gives (ended k name here items) after
+own_last {here} {k} {text} {name} {c} {d} {e} n above items after h = own_behind n above ∙ gives-next (optional (codes "encoding") (encodeset above) here) (ended k name here) e after items h
+
+own_fails-condition : {here : Spot} {k : Kind} {text name : List ℕ} {c d e : Counts} → IsNamed here k text name c d e → (above : ℕ) (items : Option (List Item)) (after : Counts) → gives (optional (codes "encoding") (encodeset above) here) e ≡ Ok (items, after)
+    → (f : ReadFault) → Fails f (gives (refused here) after) → Fails f (gives (own k above here) c)
+own_fails-condition {here} {k} {text} {name} n above items after h f fails = Fails-same f _ _ (own_last n above items after h) (Fails-then f (refused here) (λ _. Done (with_own k name (unwrap_or items []))) after fails)
+
+own_returns : {here : Spot} {k : Kind} {text name : List ℕ} {c d e : Counts} → IsNamed here k text name c d e → (above : ℕ) (items : Option (List Item)) (after : Counts) → gives (optional (codes "encoding") (encodeset above) here) e ≡ Ok (items, after)
+    → refused here ≡ Done None → (P : Own → Type 0) → P (with_own k name (unwrap_or items [])) → Ends (own k above here) c after P
+own_returns {here} {k} {text} {name} n above items after h none P p = record {
+  value = with_own k name (unwrap_or items []);
+  walked = own_last n above items after h ∙ ap (λ (w : Walk (Option Unit)). gives (w >>> λ _. Done (with_own k name (unwrap_or items []))) after) none;
+  stands = p;
+}
+
+-- ---- the node
+
+abbrev pub bare_node : Option ℕ → Kind → List ℕ → Placed
+bare_node parent kind name = record { parent = parent; own = bare kind name }
+
+-- a node without items is put behind others
+pub record IsBare (old now : List Placed) (parent : Option ℕ) (kind : Kind) (name : List ℕ) : Type 0 where
+  pub place : IsPlace (parents old) parent
+  pub nodes : now ≡ old ++ bare_node parent kind name ∷ []
+
+bare-named : {old now : List Placed} {parent : Option ℕ} {kind : Kind} {name : List ℕ} → IsBare old now parent kind name → last_named now ≡ named_above old parent
+bare-named {old} {now} {parent} {kind} {name} b = ap last_named b.nodes ∙ last_named-new old parent (bare kind name) b.place ∙ add-zero (named_above old parent)
+
+bare-put : {old now : List Placed} {parent : Option ℕ} {kind : Kind} {name : List ℕ} → IsBare old now parent kind name → (items : List Item) (new : List Placed) → new ≡ with_items items now → new ≡ old ++ record { parent = parent; own = with_own kind name items } ∷ []
+bare-put {old} {now} {parent} {kind} {name} b items new is = is ∙ ap (with_items items) b.nodes ∙ with_items-last items old (bare_node parent kind name)
+
+-- a node that is named and put, from the answers of a draft
+pub record IsPut (here : Spot) (k : Kind) (parent : Option ℕ) (old now : Drafted) (text name : List ℕ) (mid : Counts) : Type 0 where
+  pub named : IsNamed here k text name (counts old) mid (counts now)
+  pub bare : IsBare old.nodes now.nodes parent k name
+
+pub is_put : {here : Spot} {k : Kind} {parent : Option ℕ} {old mid now : Drafted} {text : List ℕ} (id : ℕ) → IsPlace (parents old.nodes) parent → node_name here ≡ Done text
+    → (n : Ends (named here text) (counts old) (counts mid) (λ t. (id < length mid.names) × (text_of mid.names id ≡ t))) → mid.nodes ≡ old.nodes → (number : ℕ)
+    → Ends (counted k here) (counts mid) (counts now) (λ _. (number ≡ length mid.nodes) × (now.nodes ≡ mid.nodes ++ bare_node parent k (text_of mid.names id) ∷ [])) → IsPut here k parent old now text n.value (counts mid)
+is_put {here} {k} {parent} {old} {mid} id place text_is n same number e = record {
+  named = record { text_is = text_is; named = n.walked; counted = e.walked };
+  bare = record { place = place; nodes = e.stands.1 ∙ ap (λ ns. ns ++ bare_node parent k (text_of mid.names id) ∷ []) same ∙ ap (λ name. old.nodes ++ bare_node parent k name ∷ []) n.stands.1 };
+}
+
+pub put_fails-encoding : {here : Spot} {k : Kind} {parent : Option ℕ} {old now : Drafted} {text name : List ℕ} {mid : Counts} → IsPut here k parent old now text name mid → (f : ReadFault) → Fails f (gives (optional (codes "encoding") (encodeset (last_named now.nodes)) here) (counts now)) → Fails f (gives (own k (named_above old.nodes parent) here) (counts old))
+put_fails-encoding {here} {k} {parent} {old} {now} p f h = own_fails-encoding p.named (named_above old.nodes parent) f (Fails-same f _ _ (ap (λ n. gives (optional (codes "encoding") (encodeset n) here) (counts now)) (sym (bare-named p.bare))) h)
+
+put_encoded : {here : Spot} {k : Kind} {parent : Option ℕ} {old now : Drafted} {text name : List ℕ} {mid : Counts} → IsPut here k parent old now text name mid → (items : Option (List Item)) (after : Counts) → gives (optional (codes "encoding") (encodeset (last_named now.nodes)) here) (counts now) ≡ Ok (items, after) → gives (optional (codes "encoding") (encodeset (named_above old.nodes parent)) here) (counts now) ≡ Ok (items, after)
+put_encoded {here} {k} {parent} {old} {now} p items after h = ap (λ n. gives (optional (codes "encoding") (encodeset n) here) (counts now)) (sym (bare-named p.bare)) ∙ h
+
+pub put_fails-condition : {here : Spot} {k : Kind} {parent : Option ℕ} {old now : Drafted} {text name : List ℕ} {mid : Counts} → IsPut here k parent old now text name mid → (new : Drafted) (P : Option (List Item) → Type 0) → Ends (optional (codes "encoding") (encodeset (last_named now.nodes)) here) (counts now) (counts new) P
+    → (f : ReadFault) → Fails f (gives (refused here) (counts new)) → Fails f (gives (own k (named_above old.nodes parent) here) (counts old))
+put_fails-condition {here} {k} {parent} {old} p new P e f fails = own_fails-condition p.named (named_above old.nodes parent) e.value (counts new) (put_encoded p e.value (counts new) e.walked) f fails
+
+pub put_returns : {here : Spot} {k : Kind} {parent : Option ℕ} {old now new : Drafted} {text name : List ℕ} {mid : Counts} → IsPut here k parent old now text name mid → (id : ℕ) → id ≡ length old.nodes → Ends (optional (codes "encoding") (encodeset (last_named now.nodes)) here) (counts now) (counts new) (λ items. new.nodes ≡ with_items (unwrap_or items []) now.nodes)
+    → refused here ≡ Done None → Ends (own k (named_above old.nodes parent) here) (counts old) (counts new) (λ o. (id ≡ length old.nodes) × (new.nodes ≡ old.nodes ++ record { parent = parent; own = o } ∷ []))
+put_returns {here} {k} {parent} {old} {now} {new} p id number e none =
+    own_returns p.named (named_above old.nodes parent) e.value (counts new) (put_encoded p e.value (counts new) e.walked) none (λ o. (id ≡ length old.nodes) × (new.nodes ≡ old.nodes ++ record { parent = parent; own = o } ∷ [])) (number, bare-put p.bare (unwrap_or e.value []) new.nodes e.stands)

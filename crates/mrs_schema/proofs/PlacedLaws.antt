@@ -9,7 +9,8 @@ use Rattle.mrs_arena.proofs.PathLaws.{ancestors-append, ancestors-push, ancestor
 use Rattle.mrs_arena.proofs.PreorderLaws.{IsPlace-lt, IsPlace-last, IsPlace-up}
 use Rattle.mrs_arena.proofs.NodeLaws.{count_by-append}
 use Rattle.mrs_arena.proofs.AlongLaws.{parts_at-push, parts_along-append, parts_along-push, parts_up}
-use Rattle.mrs_schema.specs.Drafted.{parents, named_in, named_at, last_items, last_named, with_items}
+use Rattle.spec_instructions.specs.Encodeset.{named_in}
+use Rattle.mrs_schema.specs.Drafted.{parents, named_at, last_items, last_named, more_items, with_items}
 
 abbrev parent_of : Placed → Option ℕ
 parent_of p = p.parent
@@ -102,45 +103,40 @@ named_root own = let put = named_push [] (record { parent = None; own = own }) i
 
 -- ---- items of the last node
 
--- the node with more items
+-- a node that is put, with more items
 abbrev pub with_more : List Item → Placed → Placed
-with_more items x = record { parent = x.parent; own = record { kind = x.own.kind; name = x.own.name; items = x.own.items ++ items } }
+with_more items x = record x { own = more_items items x.own }
 
 pub length-with_items : (items : List Item) (nodes : List Placed) → length (with_items items nodes) ≡ length nodes
 length-with_items items [] = refl
 length-with_items items (p ∷ []) = refl
 length-with_items items (p ∷ q ∷ rest) = ap suc (length-with_items items (q ∷ rest))
 
-pub parents-with_items : (items : List Item) (nodes : List Placed) → parents (with_items items nodes) ≡ parents nodes
-parents-with_items items [] = refl
-parents-with_items items (p ∷ []) = refl
-parents-with_items items (p ∷ q ∷ rest) = ap (λ ps. p.parent ∷ ps) (parents-with_items items (q ∷ rest))
-
-pub with_items-last : (items : List Item) (nodes : List Placed) (x : Placed) → with_items items (nodes ++ x ∷ []) ≡ nodes ++ record { parent = x.parent; own = record { kind = x.own.kind; name = x.own.name; items = x.own.items ++ items } } ∷ []
+pub with_items-last : (items : List Item) (nodes : List Placed) (x : Placed) → with_items items (nodes ++ x ∷ []) ≡ nodes ++ with_more items x ∷ []
 with_items-last items [] x = refl
 with_items-last items (p ∷ []) x = refl
 with_items-last items (p ∷ q ∷ rest) x = ap (λ nodes. p ∷ nodes) (with_items-last items (q ∷ rest) x)
 
 -- where there are nodes, one is the last
-pub record HasLast (nodes : List Placed) : Type 0 where
-  pub front : List Placed
-  pub last : Placed
-  pub whole : nodes ≡ front ++ last ∷ []
+record HasLast (nodes : List Placed) : Type 0 where
+  front : List Placed
+  last : Placed
+  whole : nodes ≡ front ++ last ∷ []
 
-pub last_of : (nodes : List Placed) → 0 < length nodes → HasLast nodes
+last_of : (nodes : List Placed) → 0 < length nodes → HasLast nodes
 last_of [] some = absurd (omega arith)
 last_of (p ∷ []) some = record { front = []; last = p; whole = refl }
 last_of (p ∷ q ∷ rest) some =
     let behind = last_of (q ∷ rest) (omega arith) in
     record { front = p ∷ behind.front; last = behind.last; whole = ap (λ nodes. p ∷ nodes) behind.whole }
 
-last_number : (nodes : List Placed) (x : Placed) → length (nodes ++ x ∷ []) - 1 ≡ length nodes
+pub last_number : (nodes : List Placed) (x : Placed) → length (nodes ++ x ∷ []) - 1 ≡ length nodes
 last_number nodes x = omega (arith, length_push nodes x)
 
 pub last_items-push : (nodes : List Placed) (x : Placed) → last_items (nodes ++ x ∷ []) ≡ x.own.items
 last_items-push nodes x = ap (λ n. slice_index_or (map items_of (nodes ++ x ∷ [])) n []) (last_number nodes x) ∙ parts_at-push parent_of items_of nodes x
 
-pub last_named-push : (nodes : List Placed) (x : Placed) → last_named (nodes ++ x ∷ []) ≡ named_in x.own.items + named_up nodes x.parent
+last_named-push : (nodes : List Placed) (x : Placed) → last_named (nodes ++ x ∷ []) ≡ named_in x.own.items + named_up nodes x.parent
 last_named-push nodes x = ap (named_at (nodes ++ x ∷ [])) (last_number nodes x) ∙ named_push nodes x
 
 pub last_items-with_items : (items : List Item) (nodes : List Placed) → 0 < length nodes → last_items (with_items items nodes) ≡ last_items nodes ++ items
@@ -159,13 +155,13 @@ last_named-with_items items nodes some =
 
 pub with_items-none : (nodes : List Placed) → with_items [] nodes ≡ nodes
 with_items-none [] = refl
-with_items-none (p ∷ []) = ap (λ items. record { parent = p.parent; own = record { kind = p.own.kind; name = p.own.name; items = items } } ∷ []) (append-nil p.own.items)
+with_items-none (p ∷ []) = ap (λ items. record p { own = record p.own { items = items } } ∷ []) (append-nil p.own.items)
 with_items-none (p ∷ q ∷ rest) = ap (λ nodes. p ∷ nodes) (with_items-none (q ∷ rest))
 
 more_last : (first then : List Item) (front : List Placed) (x : Placed) → with_items then (with_items first (front ++ x ∷ [])) ≡ with_items (first ++ then) (front ++ x ∷ [])
 more_last first then front x =
     ap (with_items then) (with_items-last first front x) ∙ with_items-last then front (with_more first x)
-    ∙ ap (λ items. front ++ record { parent = x.parent; own = record { kind = x.own.kind; name = x.own.name; items = items } } ∷ []) (append_assoc x.own.items first then)
+    ∙ ap (λ items. front ++ record x { own = record x.own { items = items } } ∷ []) (append_assoc x.own.items first then)
     ∙ sym (with_items-last (first ++ then) front x)
 
 pub with_items-more : (first then : List Item) (nodes : List Placed) → with_items then (with_items first nodes) ≡ with_items (first ++ then) nodes

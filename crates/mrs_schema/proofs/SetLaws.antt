@@ -1,117 +1,138 @@
 -- Laws of the walk over the sets of a document.
-use Rattle.std.proofs.Common.{◌≡◌, ◌∙◌, sym, ap, subst, ℕ, ◌+◌, ◌<◌, Bool, true, false, ◌||◌, ◌&&◌, cond, List, [], ◌∷◌, ◌++◌, length, get_or, drop, Option, Some, None, Ok, not, codes, bytes_eq, arith}
-use Rattle.std.specs.Prelude.{is_some}
-use Rattle.serde_json.specs.Data.{Data, Items, Members}
-use Rattle.serde_json.specs.Find.{get}
+use Rattle.std.proofs.Common.{◌≡◌, ◌∙◌, sym, ap, refl, ℕ, ◌+◌, ◌<◌, ◌≤◌, Bool, true, false, ◌||◌, ◌&&◌, List, [], ◌∷◌, ◌++◌, length, get_or, Option, Some, None, Err}
+use Rattle.std.specs.Prelude.{is_some, ⊤}
 use Rattle.serde_json.specs.View.{view, items_view}
 use Rattle.serde_json.specs.declared.value.Value.{Value}
-use Rattle.spec_walk.specs.Pointer.{under, element}
-use Rattle.spec_walk.specs.Event.{Event, BadName, Doubled}
-use Rattle.spec_walk.specs.Limits.{Counts, judged}
-use Rattle.spec_walk.specs.Members.{in_object, in_array, in_text, needed, typed, unless}
-use Rattle.spec_instructions.specs.Kind.{Set, kinds_in, kind_named}
-use Rattle.spec_instructions.specs.Name.{is_name}
-use Rattle.spec_instructions.specs.Walk.{named_items, is_chosen, own_events, children_events, set_name_events, set_parts, set_events, sets_events}
-use Rattle.spec_instructions.specs.Tree.{Node, node_of, set_in}
+use Rattle.spec_walk.specs.Pointer.{element}
+use Rattle.spec_walk.specs.Event.{NoSet}
+use Rattle.spec_walk.specs.Limits.{Counts}
+use Rattle.spec_walk.specs.Walk.{Walk, Done, ◌>>>◌, gives}
+use Rattle.spec_walk.specs.Spot.{Spot, spot, wrong, needs, kind, elements, each}
+use Rattle.spec_walk.proofs.WalkLaws.{gives-next}
+use Rattle.spec_instructions.specs.Kind.{Kind, Set, kind_named}
+use Rattle.spec_instructions.specs.Tree.{Node}
+use Rattle.spec_instructions.specs.Walk.{chosen_in, is_chosen, set_of, set}
 use Rattle.mrs_names.specs.Texts.{IsExtended}
-use Rattle.mrs_names.proofs.PlaceLaws.{IsExtended-trans}
-use Rattle.mrs_arena.specs.Placed.{Placed, preorder}
-use Rattle.mrs_schema.specs.declared.fault.ReadFault.{ReadFault}
-use Rattle.mrs_schema.specs.Above.{IsSetPut}
+use Rattle.mrs_names.proofs.PlaceLaws.{IsExtended-refl, IsExtended-trans}
+use Rattle.mrs_arena.specs.Placed.{preorder}
+use Rattle.mrs_walk.specs.Gives.{Gives, Fails, Ends}
+use Rattle.mrs_walk.specs.declared.fault.ReadFault.{ReadFault}
+use Rattle.mrs_walk.proofs.AnswerLaws.{Fails-made, Fails-same, Fails-then}
+use Rattle.mrs_walk.proofs.EachLaws.{EachRead, EachRead-none, EachRead-next, EachRead-fails, EachRead-all}
 use Rattle.mrs_schema.specs.Drafted.{Drafted, counts}
-use Rattle.mrs_schema.specs.Gives.{first_wrong}
-use Rattle.mrs_schema.specs.Members.{members_of, nothing}
-use Rattle.mrs_schema.proofs.WalkLaws.{IsPlain, judged-next}
-use Rattle.mrs_schema.proofs.PlainLaws.{plain-unless, plain-append, plain-in_text, plain-needed, plain-typed}
-use Rattle.mrs_schema.proofs.StepLaws.{Stops, Stops-same, Stops-first}
-use Rattle.mrs_schema.proofs.MemberLaws.{there}
-use Rattle.mrs_schema.proofs.SplitLaws.{Splits, Splits-passes, splits-end, splits-append, splits-in_object, splits-needed}
-use Rattle.mrs_schema.proofs.ItemLoop.{items_view-drop}
-use Rattle.mrs_schema.proofs.TreeSteps.{whole_events}
+use Rattle.mrs_schema.specs.Nodes.{whole, put_set, IsSetPut}
 
--- ---- the walk at a set
+-- ---- one set
 
-plain-set_name : (isa : List ℕ) (found : Bool) (at : List ℕ) (ms : Members) → IsPlain (needed (codes "name") (in_text (set_name_events isa found)) at ms)
-plain-set_name isa found at ms = plain-needed (codes "name") (in_text (set_name_events isa found)) at ms (λ d. plain-in_text (set_name_events isa found) _ d
-    (λ s. plain-append (unless (is_name s) (under at (codes "name")) BadName) (unless (not (found && bytes_eq s isa)) (under at (codes "name")) Doubled) (plain-unless _ _ BadName) (plain-unless _ _ Doubled)))
+-- a set whose kind and name are read
+pub set_is : (isa : List ℕ) (before : List (Option Node)) (here : Spot) (k : Kind) (chosen : Bool) → kind (kind_named (Set ∷ [])) here ≡ Done k → is_chosen isa before here ≡ Done chosen → set isa before here ≡ set_of here chosen
+set_is isa before here k chosen is_set is =
+    ap (λ (w : Walk Kind). w >>> λ _. is_chosen isa before here >>> set_of here) is_set
+    ∙ ap (λ (w : Walk Bool). w >>> set_of here) is
 
--- its kind and its name, and then what it holds if it is the chosen one
-pub splits-set : (isa : List ℕ) (found : Bool) (at : List ℕ) (d : Data) → Splits (set_events isa found at d)
-    (in_object (λ place ms. typed (λ s. is_some (kind_named (Set ∷ []) s)) place ms ++ needed (codes "name") (in_text (set_name_events isa found)) place ms) at d) (set_parts at (members_of d) (is_chosen isa d))
-splits-set isa found at d =
-    splits-in_object (λ place ms. kind place ms ++ (name place ms ++ set_parts place ms (is_chosen isa d))) (λ place ms. kind place ms ++ name place ms) rest at d
-    (splits-append (kind at (members_of d)) (name at (members_of d) ++ rest) (name at (members_of d)) rest (plain-typed _ at (members_of d))
-    (splits-end (name at (members_of d)) rest (plain-set_name isa found at (members_of d))))
+-- the chosen set is put
+pub set_returns : {old new : Drafted} (isa : List ℕ) (before : List (Option Node)) (here : Spot) (k : Kind) (found : Bool) → kind (kind_named (Set ∷ [])) here ≡ Done k → is_chosen isa before here ≡ Done true → (found && true) ≡ false → (found ≡ false → old.nodes ≡ [])
+    → Ends (whole Set 0 here) (counts old) (counts new) (λ n. new.nodes ≡ old.nodes ++ preorder None (length old.nodes) n) → Ends (set isa before here) (counts old) (counts new) (λ n. IsSetPut found true old.nodes new.nodes n)
+set_returns {old} {new} isa before here k found is_set is once bare e = record {
+  value = Some e.value;
+  walked = ap (λ w. gives w (counts old)) (set_is isa before here k true is_set is) ∙ gives-next (whole Set 0 here) (λ n. Done (Some n)) (counts old) (counts new) e.value e.walked;
+  stands = record { is = refl; once = once; nodes = e.stands ∙ ap (λ nodes. nodes ++ preorder None (length nodes) e.value) (bare (first found once)) };
+}
   where
-    kind : List ℕ → Members → List Event
-    kind place ms = typed (λ s. is_some (kind_named (Set ∷ []) s)) place ms
+    first : (b : Bool) → (b && true) ≡ false → b ≡ false
+    first false h = refl
+    first true h = absurd (cc)
 
-    name : List ℕ → Members → List Event
-    name place ms = needed (codes "name") (in_text (set_name_events isa found)) place ms
+-- ---- the loop
 
-    rest : List Event
-    rest = set_parts at (members_of d) (is_chosen isa d)
+abbrev first_of : Option Node → Option Node → Option Node
+first_of None n = n
+first_of (Some m) n = Some m
 
-pub set_passes : (isa : List ℕ) (found chosen : Bool) (at : List ℕ) (d : Data) (c : Counts) → first_wrong (in_object (λ place ms. typed (λ s. is_some (kind_named (Set ∷ []) s)) place ms ++ needed (codes "name") (in_text (set_name_events isa found)) place ms) at d) ≡ None
-    → chosen ≡ is_chosen isa d → judged (set_events isa found at d) c ≡ judged (set_parts at (members_of d) chosen) c
-set_passes isa found chosen at d c h is = Splits-passes (splits-set isa found at d) c h ∙ ap (λ b. judged (set_parts at (members_of d) b) c) (sym is)
-
--- what the chosen set holds
-pub chosen_parts : (at : List ℕ) (d : Data) → set_parts at (members_of d) true ≡ whole_events Set 0 at d
-chosen_parts at d =
-    let same : named_items (members_of d) ≡ 0 + named_items (members_of d) = omega arith in
-    ap (λ n. own_events Set 0 at (members_of d) ++ children_events (kinds_in Set) n at (members_of d)) same
-
--- ---- the loop over sets
-
--- whether the chosen set stands before the rest, and is put, or is to come
-abbrev pub FoundSet : Bool → List Placed → Option Node → Option Node → Type 0
-FoundSet true nodes rest all = IsSetPut all nodes
-FoundSet false nodes rest all = (nodes ≡ []) × (rest ≡ all)
-
-found-next : (found chosen : Bool) (now new : List Placed) (set : Node) (here rest all : Option Node) → here ≡ cond chosen (Some set) rest → FoundSet found now here all → (found && chosen) ≡ false → new ≡ cond chosen (preorder None 0 set) now
-    → FoundSet (found || chosen) new rest all
-found-next true true now new set here rest all is h apart put = absurd (cc)
-found-next true false now new set here rest all is h apart put = record { set = h.set; is_set = h.is_set; tree = put ∙ h.tree }
-found-next false true now new set here rest all is h apart put = record { set = set; is_set = sym h.1 ∙ is; tree = put }
-found-next false false now new set here rest all is h apart put = (put ∙ h.0, sym is ∙ h.1)
+chosen_in-more : (sets : List (Option Node)) (n : Option Node) → chosen_in (sets ++ n ∷ []) ≡ first_of (chosen_in sets) n
+chosen_in-more [] None = refl
+chosen_in-more [] (Some m) = refl
+chosen_in-more (None ∷ sets) n = chosen_in-more sets n
+chosen_in-more (Some m ∷ sets) n = refl
 
 -- how far the sets are read
 pub record SetsRead (isa at : List ℕ) (found : Bool) (old now : Drafted) (i : ℕ) (vs : List Value) : Type 0 where
-  pub walk : judged (sets_events isa at i found (items_view (drop i vs))) (counts now) ≡ judged (sets_events isa at 0 false (items_view vs)) (counts old)
-  pub set : FoundSet found now.nodes (set_in isa (items_view (drop i vs))) (set_in isa (items_view vs))
+  pub sets : List (Option Node)
+  pub each : EachRead (set isa) at sets (counts old) (counts now) i vs
+  pub found_is : is_some (chosen_in sets) ≡ found
+  pub put : now.nodes ≡ put_set (chosen_in sets) []
   pub kept : IsExtended old.names now.names
 
-sets_here : {isa at : List ℕ} {found : Bool} {old now : Drafted} {i : ℕ} {vs : List Value} → SetsRead isa at found old now i vs → (v : Value) → i < length vs → v ≡ get_or vs i v
-    → judged (set_events isa found (element at i) (view v) ++ sets_events isa at (i + 1) (found || is_chosen isa (view v)) (items_view (drop (i + 1) vs))) (counts now) ≡ judged (sets_events isa at 0 false (items_view vs)) (counts old)
-sets_here {isa} {at} {found} {old} {now} {i} {vs} r v within is = ap (λ ds. judged (sets_events isa at i found ds) (counts now)) (sym (items_view-drop vs i v within is)) ∙ r.walk
+pub SetsRead-none : (isa at : List ℕ) (old : Drafted) (vs : List Value) → old.nodes ≡ [] → SetsRead isa at false old old 0 vs
+SetsRead-none isa at old vs none = record { sets = []; each = EachRead-none _ at (counts old) vs; found_is = refl; put = none; kept = IsExtended-refl old.names }
 
-pub SetsRead-stops : {isa at : List ℕ} {found : Bool} {old now : Drafted} {i : ℕ} {vs : List Value} → SetsRead isa at found old now i vs → (v : Value) → i < length vs → v ≡ get_or vs i v → (e : ReadFault)
-    → Stops e (judged (set_events isa found (element at i) (view v)) (counts now)) → Stops e (judged (sets_events isa at 0 false (items_view vs)) (counts old))
-SetsRead-stops {isa} {at} {found} {old} {now} {i} {vs} r v within is e h =
-    Stops-same e _ _ (sym (sets_here r v within is)) (Stops-first e (set_events isa found (element at i) (view v)) (sets_events isa at (i + 1) (found || is_chosen isa (view v)) (items_view (drop (i + 1) vs))) (counts now) h)
-
-pub SetsRead-next : {isa at : List ℕ} {found : Bool} {old now : Drafted} {i : ℕ} {vs : List Value} → SetsRead isa at found old now i vs → (v : Value) → i < length vs → v ≡ get_or vs i v → (new : Drafted)
-    → judged (set_events isa found (element at i) (view v)) (counts now) ≡ Ok (counts new) → (chosen : Bool) → chosen ≡ is_chosen isa (view v) → (found && chosen) ≡ false
-    → new.nodes ≡ cond chosen (preorder None 0 (node_of Set (view v))) now.nodes → (later : Bool) → later ≡ (found || chosen) → IsExtended now.names new.names → SetsRead isa at later old new (i + 1) vs
-SetsRead-next {isa} {at} {found} {old} {now} {i} {vs} r v within is new passed chosen which apart put later so more = record {
-  walk =
-      ap (λ b. judged (sets_events isa at (i + 1) b rest) (counts new)) (so ∙ ap (λ b. found || b) which)
-      ∙ sym (judged-next (set_events isa found (element at i) (view v)) (sets_events isa at (i + 1) (found || is_chosen isa (view v)) rest) (counts now) (counts new) passed)
-      ∙ sets_here r v within is;
-  set = subst (λ b. FoundSet b new.nodes (set_in isa rest) (set_in isa (items_view vs))) (sym so) (found-next found chosen now.nodes new.nodes (node_of Set (view v)) (set_in isa (items_view (drop i vs))) (set_in isa rest) (set_in isa (items_view vs)) here r.set apart put);
-  kept = IsExtended-trans old.names now.names new.names r.kept more;
-}
+-- nothing is put before the chosen set
+pub SetsRead-bare : {isa at : List ℕ} {found : Bool} {old now : Drafted} {i : ℕ} {vs : List Value} → SetsRead isa at found old now i vs → found ≡ false → now.nodes ≡ []
+SetsRead-bare {isa} {at} {found} {old} {now} r none = go (chosen_in r.sets) (r.found_is ∙ none) r.put
   where
-    rest : Items
-    rest = items_view (drop (i + 1) vs)
+    go : (o : Option Node) → is_some o ≡ false → now.nodes ≡ put_set o [] → now.nodes ≡ []
+    go None is put = put
+    go (Some n) is put = absurd (cc)
 
-    here : set_in isa (items_view (drop i vs)) ≡ cond chosen (Some (node_of Set (view v))) (set_in isa rest)
-    here = ap (set_in isa) (items_view-drop vs i v within is) ∙ ap (λ b. cond b (Some (node_of Set (view v))) (set_in isa rest)) (sym which)
+found-next : (o n : Option Node) (found chosen : Bool) → is_some o ≡ found → chosen ≡ is_some n → is_some (first_of o n) ≡ (found || chosen)
+found-next None n found chosen is same = sym same ∙ ap (λ b. b || chosen) is
+found-next (Some m) n found chosen is same = ap (λ b. b || chosen) is
 
--- ---- the document
+put-next : (o n : Option Node) (found chosen : Bool) → is_some o ≡ found → chosen ≡ is_some n → (found && chosen) ≡ false → put_set n (put_set o []) ≡ put_set (first_of o n) []
+put-next None None found chosen is same once = refl
+put-next None (Some m) found chosen is same once = refl
+put-next (Some m) None found chosen is same once = refl
+put-next (Some m) (Some l) found chosen is same once = absurd (let both : (true && true) ≡ false = ap (λ b. b && true) is ∙ ap (λ b. found && b) (sym same) ∙ once in cc)
 
-pub splits-document : (isa at : List ℕ) (d : Data) → Splits (in_object (λ place ms. needed (codes "instructions") (in_array (λ sets_place ds. sets_events isa sets_place 0 false ds)) place ms) at d)
-    (in_object (needed (codes "instructions") nothing) at d) (there (get (codes "instructions") d) (in_array (λ place ds. sets_events isa place 0 false ds) (under at (codes "instructions"))))
-splits-document isa at d = splits-in_object (λ place ms. needed (codes "instructions") (in_array (λ sets_place ds. sets_events isa sets_place 0 false ds)) place ms) (needed (codes "instructions") nothing) _ at d
-    (splits-needed (codes "instructions") (in_array (λ place ds. sets_events isa place 0 false ds)) at d)
+pub SetsRead-next : {isa at : List ℕ} {found : Bool} {old now : Drafted} {i : ℕ} {vs : List Value} → (r : SetsRead isa at found old now i vs) → (v : Value) → i < length vs → v ≡ get_or vs i v → (here : Spot) → here ≡ spot (element at i) (view v) → (new : Drafted) (chosen : Bool)
+    → Ends (set isa r.sets here) (counts now) (counts new) (λ n. IsSetPut found chosen now.nodes new.nodes n) → (later : Bool) → later ≡ (found || chosen) → IsExtended now.names new.names → SetsRead isa at later old new (i + 1) vs
+SetsRead-next {isa} {at} {found} {old} {now} {i} {vs} r v within is here at_it new chosen e later so kept = record {
+  sets = r.sets ++ e.value ∷ [];
+  each = EachRead-next r.each v within is here at_it e.value (counts new) e.walked;
+  found_is = ap is_some (chosen_in-more r.sets e.value) ∙ found-next (chosen_in r.sets) e.value found chosen r.found_is e.stands.is ∙ sym so;
+  put =
+      e.stands.nodes ∙ ap (put_set e.value) r.put ∙ put-next (chosen_in r.sets) e.value found chosen r.found_is e.stands.is e.stands.once
+      ∙ ap (λ o. put_set o []) (sym (chosen_in-more r.sets e.value));
+  kept = IsExtended-trans old.names now.names new.names r.kept kept;
+}
+
+pub SetsRead-fails : {isa at : List ℕ} {found : Bool} {old now : Drafted} {i : ℕ} {vs : List Value} → (r : SetsRead isa at found old now i vs) → (v : Value) → i < length vs → v ≡ get_or vs i v → (here : Spot) → here ≡ spot (element at i) (view v) → (f : ReadFault)
+    → Fails f (gives (set isa r.sets here) (counts now)) → Fails f (gives (each (set isa) at [] (items_view vs)) (counts old))
+SetsRead-fails r v within is here at_it f h = EachRead-fails r.each v within is here at_it f h
+
+-- ---- an array of sets
+
+abbrev chosen_set : Spot → List (Option Node) → Walk Node
+chosen_set here found = needs (chosen_in found) here NoSet
+
+abbrev pub sets_walk : List ℕ → Spot → Walk Node
+sets_walk isa here = elements here >>> each (set isa) here.at [] >>> chosen_set here
+
+sets_are : (isa : List ℕ) (here : Spot) (vs : List Value) → elements here ≡ Done (items_view vs) → sets_walk isa here ≡ each (set isa) here.at [] (items_view vs) >>> chosen_set here
+sets_are isa here vs is = ap (λ w. w >>> each (set isa) here.at [] >>> chosen_set here) is
+
+pub sets_fail : (f : ReadFault) (isa : List ℕ) (here : Spot) (vs : List Value) (c : Counts) → elements here ≡ Done (items_view vs) → Fails f (gives (each (set isa) here.at [] (items_view vs)) c) → Fails f (gives (sets_walk isa here) c)
+sets_fail f isa here vs c is fails = Fails-same f _ _ (ap (λ w. gives w c) (sets_are isa here vs is)) (Fails-then f (each (set isa) here.at [] (items_view vs)) (chosen_set here) c fails)
+
+sets_end : {isa : List ℕ} (here : Spot) {found : Bool} {old now : Drafted} {i : ℕ} {vs : List Value} → elements here ≡ Done (items_view vs) → (r : SetsRead isa here.at found old now i vs) → length vs ≤ i → gives (sets_walk isa here) (counts old) ≡ gives (chosen_set here r.sets) (counts now)
+sets_end {isa} here {found} {old} {now} {i} {vs} is r past =
+    ap (λ w. gives w (counts old)) (sets_are isa here vs is)
+    ∙ gives-next (each (set isa) here.at [] (items_view vs)) (chosen_set here) (counts old) (counts now) r.sets (EachRead-all r.each past)
+
+-- none is chosen
+pub sets_lack : {isa : List ℕ} (here : Spot) {found : Bool} {old now : Drafted} {i : ℕ} {vs : List Value} → elements here ≡ Done (items_view vs) → SetsRead isa here.at found old now i vs → length vs ≤ i → found ≡ false
+    → (f : ReadFault) → Gives {T = ⊤} {A = ⊤} (Err f) (wrong here NoSet) (λ x. x) → Fails f (gives (sets_walk isa here) (counts old))
+sets_lack {isa} here {found} {old} {now} is r past none f made = Fails-made f here NoSet _ made (sets_end here is r past ∙ go (chosen_in r.sets) (r.found_is ∙ none))
+  where
+    go : (o : Option Node) → is_some o ≡ false → gives (needs o here NoSet) (counts now) ≡ Err (record { at = here.at; why = NoSet })
+    go None h = refl
+    go (Some n) h = absurd (cc)
+
+-- one is, and its nodes are put
+pub sets_return : {isa : List ℕ} (here : Spot) {found : Bool} {old now : Drafted} {i : ℕ} {vs : List Value} → elements here ≡ Done (items_view vs) → SetsRead isa here.at found old now i vs → length vs ≤ i → found ≡ true
+    → Ends (sets_walk isa here) (counts old) (counts now) (λ n. now.nodes ≡ preorder None 0 n)
+sets_return {isa} here {found} {old} {now} is r past some = go (chosen_in r.sets) (r.found_is ∙ some) (sets_end here is r past) r.put
+  where
+    go : (o : Option Node) → is_some o ≡ true → gives (sets_walk isa here) (counts old) ≡ gives (needs o here NoSet) (counts now) → now.nodes ≡ put_set o [] → Ends (sets_walk isa here) (counts old) (counts now) (λ n. now.nodes ≡ preorder None 0 n)
+    go None h walked put = absurd (cc)
+    go (Some n) h walked put = record { value = n; walked = walked; stands = put }

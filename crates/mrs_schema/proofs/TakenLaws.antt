@@ -6,14 +6,16 @@ use Rattle.std.proofs.lemmas.Bool.{eq-eqb, eqb-true}
 use Rattle.std.proofs.lemmas.List.Elements.{All-head, All-tail}
 use Rattle.std.proofs.lemmas.Option.{slice_get-get_or, get_or_from_slice_get}
 use Rattle.std.proofs.lemmas.Slice.Eq.{bytes_eq-Decides}
-use Rattle.spec_walk.specs.Event.{TooMany, Fault, Name}
-use Rattle.spec_walk.specs.Limits.{Counts, judged, ◌>>=◌}
+use Rattle.spec_walk.specs.Event.{TooMany, Fault}
+use Rattle.spec_walk.specs.Limits.{Counts, ◌>>=◌}
+use Rattle.spec_walk.specs.Walk.{Done, gives}
+use Rattle.spec_walk.specs.Spot.{Spot, named}
 use Rattle.mrs_names.specs.Texts.{place_of, with_name, is_refused, AreDistinct}
 use Rattle.mrs_names.proofs.PlaceLaws.{place_of-at, with_name-new, with_name-held}
 use Rattle.mrs_arena.specs.Flat.{FlatItem}
 use Rattle.mrs_arena.specs.Placed.{text_of, item_of, Placed, IsHeldItem}
 use Rattle.mrs_schema.specs.Drafted.{counts}
-use Rattle.mrs_schema.specs.Items.{names_of}
+use Rattle.spec_instructions.specs.Encodeset.{names_of}
 
 -- ---- one more name
 
@@ -36,37 +38,37 @@ held_is text (name ∷ names) = ap (λ b. b || list_any (λ held. bytes_eq held 
     go false (Some k) ih = ih
 
 -- what becomes of the counts at a text, by its number and whether the names are full
-abbrev name_step : List ℕ → List ℕ → Option ℕ → Bool → Counts → Result Counts Fault
-name_step at text (Some k) full c = Ok c
-name_step at text None true c = Err (record { at = at; why = TooMany })
-name_step at text None false c = Ok (record { held = c.held ++ text ∷ []; nodes = c.nodes; leaves = c.leaves; aliases = c.aliases })
+abbrev name_step : Spot → List ℕ → Option ℕ → Bool → Counts → Result (List ℕ × Counts) Fault
+name_step here text (Some k) full c = Ok (text, c)
+name_step here text None true c = Err (record { at = here.at; why = TooMany })
+name_step here text None false c = Ok (text, record c { held = c.held ++ text ∷ [] })
 
-name_step-is : (at text : List ℕ) (c : Counts) → judged (Name at text ∷ []) c ≡ name_step at text (place_of text c.held) (nat_le 4194304 (length c.held)) c
-name_step-is at text c = ap (λ b. step b (nat_le 4194304 (length c.held))) (held_is text c.held) ∙ go (place_of text c.held) (nat_le 4194304 (length c.held))
+name_step-is : (here : Spot) (text : List ℕ) (c : Counts) → gives (named here text) c ≡ name_step here text (place_of text c.held) (nat_le 4194304 (length c.held)) c
+name_step-is here text c = ap (λ b. step b (nat_le 4194304 (length c.held))) (held_is text c.held) ∙ go (place_of text c.held) (nat_le 4194304 (length c.held))
   where
-    step : Bool → Bool → Result Counts Fault
-    step held full = cond held (Ok c) (cond full (Err (record { at = at; why = TooMany })) (Ok (record c { held = c.held ++ text ∷ [] }))) >>= judged []
+    step : Bool → Bool → Result (List ℕ × Counts) Fault
+    step held full = cond held (Ok c) (cond full (Err (record { at = here.at; why = TooMany })) (Ok (record c { held = c.held ++ text ∷ [] }))) >>= gives (Done text)
 
-    go : (o : Option ℕ) (full : Bool) → step (is_some o) full ≡ name_step at text o full c
+    go : (o : Option ℕ) (full : Bool) → step (is_some o) full ≡ name_step here text o full c
     go (Some k) full = refl
     go None true = refl
     go None false = refl
 
-pub name_taken : (at text : List ℕ) (names : List (List ℕ)) (nodes : List Placed) → is_refused text names ≡ false
-    → judged (Name at text ∷ []) (counts (record { names = names; nodes = nodes })) ≡ Ok (counts (record { names = with_name text names; nodes = nodes }))
-name_taken at text names nodes room = name_step-is at text (counts (record { names = names; nodes = nodes })) ∙ go (place_of text names) refl (nat_le 4194304 (length names)) room
+pub name_taken : (here : Spot) (text : List ℕ) (names : List (List ℕ)) (nodes : List Placed) → is_refused text names ≡ false
+    → gives (named here text) (counts (record { names = names; nodes = nodes })) ≡ Ok (text, counts (record { names = with_name text names; nodes = nodes }))
+name_taken here text names nodes room = name_step-is here text (counts (record { names = names; nodes = nodes })) ∙ go (place_of text names) refl (nat_le 4194304 (length names)) room
   where
     go : (o : Option ℕ) → place_of text names ≡ o → (full : Bool) → (is_none o && full) ≡ false
-        → name_step at text o full (counts (record { names = names; nodes = nodes })) ≡ Ok (counts (record { names = with_name text names; nodes = nodes }))
-    go (Some k) e full h = ap (λ ns. Ok (counts (record { names = ns; nodes = nodes }))) (sym (with_name-held text names k e))
+        → name_step here text o full (counts (record { names = names; nodes = nodes })) ≡ Ok (text, counts (record { names = with_name text names; nodes = nodes }))
+    go (Some k) e full h = ap (λ ns. Ok (text, counts (record { names = ns; nodes = nodes }))) (sym (with_name-held text names k e))
     go None e true h = absurd (cc)
-    go None e false h = ap (λ ns. Ok (counts (record { names = ns; nodes = nodes }))) (sym (with_name-new text names e))
+    go None e false h = ap (λ ns. Ok (text, counts (record { names = ns; nodes = nodes }))) (sym (with_name-new text names e))
 
-pub name_refused : (at text : List ℕ) (names : List (List ℕ)) (nodes : List Placed) → is_refused text names ≡ true
-    → judged (Name at text ∷ []) (counts (record { names = names; nodes = nodes })) ≡ Err (record { at = at; why = TooMany })
-name_refused at text names nodes refused = name_step-is at text (counts (record { names = names; nodes = nodes })) ∙ go (place_of text names) (nat_le 4194304 (length names)) refused
+pub name_refused : (here : Spot) (text : List ℕ) (names : List (List ℕ)) (nodes : List Placed) → is_refused text names ≡ true
+    → gives (named here text) (counts (record { names = names; nodes = nodes })) ≡ Err (record { at = here.at; why = TooMany })
+name_refused here text names nodes refused = name_step-is here text (counts (record { names = names; nodes = nodes })) ∙ go (place_of text names) (nat_le 4194304 (length names)) refused
   where
-    go : (o : Option ℕ) (full : Bool) → (is_none o && full) ≡ true → name_step at text o full (counts (record { names = names; nodes = nodes })) ≡ Err (record { at = at; why = TooMany })
+    go : (o : Option ℕ) (full : Bool) → (is_none o && full) ≡ true → name_step here text o full (counts (record { names = names; nodes = nodes })) ≡ Err (record { at = here.at; why = TooMany })
     go (Some k) full h = absurd (cc)
     go None true h = refl
     go None false h = absurd (cc)

@@ -1,15 +1,13 @@
 -- What a walk has put so far: the names that are held, and the nodes with the texts of their names.
-use Rattle.std.specs.Prelude.{◌≡◌, ℕ, ◌-◌, Bool, true, false, List, [], ◌∷◌, ◌++◌, length, map, flat_map, count_by, slice_index_or, Option, is_some, Result, Ok, Err, ⊤}
+use Rattle.std.specs.Prelude.{ℕ, ◌-◌, Bool, true, false, List, [], ◌∷◌, ◌++◌, length, map, flat_map, count_by, slice_index_or, Option}
 use Rattle.spec_bits.specs.Item.{Item}
-use Rattle.spec_walk.specs.Event.{Event, Fault}
-use Rattle.spec_walk.specs.Limits.{Counts, judged}
+use Rattle.spec_instructions.specs.Encodeset.{named_in}
+use Rattle.spec_walk.specs.Limits.{Counts}
 use Rattle.spec_instructions.specs.Kind as kind
 use Rattle.spec_instructions.specs.Kind.{Kind}
+use Rattle.spec_instructions.specs.Tree.{Own}
 use Rattle.mrs_arena.specs.Paths.{ancestors}
 use Rattle.mrs_arena.specs.Placed.{Placed}
-use Rattle.mrs_schema.specs.Faults.{fault_of}
-use Rattle.mrs_schema.specs.declared.fault.ReadFault.{ReadFault}
-use Rattle.mrs_schema.specs.declared.fault.ReadFault.TheVariants.{Schema, NoMemory}
 
 pub record Drafted : Type 0 where
   pub names : List (List ℕ)
@@ -46,28 +44,18 @@ abbrev pub last_items : List Placed → List Item
 last_items nodes = items_at nodes (length nodes - 1)
 
 -- how many named items stand on the path of node n
-abbrev pub named_in : List Item → ℕ
-named_in items = count_by (λ it. is_some it.name) items
-
 abbrev pub named_at : List Placed → ℕ → ℕ
 named_at nodes n = named_in (flat_map (items_at nodes) (ancestors (parents nodes) n))
 
 abbrev pub last_named : List Placed → ℕ
 last_named nodes = named_at nodes (length nodes - 1)
 
+-- what a node says of itself, with more items
+abbrev pub more_items : List Item → Own → Own
+more_items items own = record own { items = own.items ++ items }
+
 -- the nodes with more items at the last of them
 abbrev pub with_items : List Item → List Placed → List Placed
 with_items items [] = []
-with_items items (p ∷ []) = record p { own = record { kind = p.own.kind; name = p.own.name; items = p.own.items ++ items } } ∷ []
+with_items items (p ∷ []) = record p { own = more_items items p.own } ∷ []
 with_items items (p ∷ q ∷ rest) = p ∷ with_items items (q ∷ rest)
-
--- ---- steps of a walk
-
--- an answer stands for what the events make of the counts: a value where they go on to these, a refusal where they end in the fault
-abbrev pub Passes : {T : Type 0} → Result T ReadFault → Result Counts Fault → Counts → (T → Type 0) → Type 0
-Passes (Ok x) judged after P = (judged ≡ Ok after) × P x
-Passes (Err (Schema f)) judged after P = judged ≡ Err (fault_of f)
-Passes (Err NoMemory) judged after P = ⊤
-
-abbrev pub Steps : {T : Type 0} → Result T ReadFault → Drafted → Drafted → List Event → (T → Type 0) → Type 0
-Steps result old new events P = Passes result (judged events (counts old)) (counts new) P

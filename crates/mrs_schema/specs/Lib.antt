@@ -1,10 +1,6 @@
-pub mod Pointers
-pub mod Faults
-pub mod Gives
-pub mod Members
+pub use Rattle.mrs_walk.specs.Faults
 pub mod Kinds
-pub mod Items
-pub mod Children
+pub mod Parts
 pub mod Drafted
-pub mod Above
+pub mod Nodes
 pub mod Release

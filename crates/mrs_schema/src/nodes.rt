@@ -1,123 +1,209 @@
-//! Reads the nodes below a set, and puts each behind those before it.
+//! Reads nodes and the nodes below them, and puts each behind those before it.
 
-ghost use Rattle.std.specs.Prelude.{◌≡◌, ◌+◌, ◌++◌, Some, codes, length, ⊤};
-ghost use Rattle.serde_json.specs.View.{view, items_view};
-ghost use Rattle.spec_walk.specs.Members.{in_array, optional};
-ghost use Rattle.spec_instructions.specs.Kind.{Group, Leaf, kinds_in};
-ghost use Rattle.spec_instructions.specs.Walk.{own_events, node_events, children_events, named_items};
-ghost use Rattle.spec_instructions.specs.Tree.{node_of, child_nodes};
+ghost use Rattle.std.specs.Prelude.{◌≡◌, ◌++◌, ◌<◌, [], ◌∷◌, Some, None, codes, length, option_map, unwrap_or};
+ghost use Rattle.spec_walk.specs.Spot.{kind, optional};
+ghost use Rattle.spec_walk.specs.Descend.{at_spot};
+ghost use Rattle.spec_instructions.specs.Kind.{Group, Leaf, kinds_in, kind_named};
+ghost use Rattle.spec_instructions.specs.Encodeset.{encodeset};
+ghost use Rattle.spec_instructions.specs.Walk.{node_name, condition, own, child, nodes_of};
 ghost use Rattle.mrs_names.specs.Texts.{IsExtended};
 ghost use Rattle.mrs_arena.specs.Paths.{IsPlace};
-ghost use Rattle.mrs_arena.specs.Placed.{preorder, preorders};
-ghost use Rattle.mrs_schema.specs.Children.{child_node, children_of};
-ghost use Rattle.mrs_schema.specs.Drafted.{Steps, parents, named_at};
-ghost use Rattle.mrs_schema.specs.Gives.{Reads};
-ghost use Rattle.mrs_schema.specs.Members.{members_of, nothing};
-ghost use Rattle.mrs_schema.specs.Pointers.{pointer};
+ghost use Rattle.mrs_arena.specs.Placed.{kind_of, preorder, preorders};
+ghost use Rattle.mrs_walk.specs.Gives.{Gives, Puts};
+ghost use Rattle.mrs_walk.specs.Here.{spot_of};
+ghost use Rattle.mrs_schema.specs.Drafted.{counts, parents, named_at, last_items, last_named, with_items};
+ghost use Rattle.mrs_schema.specs.Kinds.{child_kind_of};
+ghost use Rattle.mrs_schema.specs.Nodes.{children, whole, named_above};
 
-use crate::aliases::refuse_aliases;
 use crate::draft::Draft;
-use crate::fault::ReadFault;
-use crate::kind::{GroupChild, read_group_child};
-use crate::members::child_values;
-use crate::own::read_own;
-use crate::place::Place;
+use crate::items::read_encodeset;
+use crate::names::is_name;
 use mrs_arena::{Kind, NodeId};
-use serde_json::Value;
-use std::alloc::Global;
+use mrs_walk::{Here, ReadFault, Why};
 
-/// The children of a set or a group, which is the node `parent`.
+/// What stands in the `children` of a node.
+#[derive(Clone, Copy)]
+pub(crate) enum ChildKind {
+    Group,
+    Leaf,
+    Alias,
+    Instance,
+}
+
+/// The children of the node `parent`, which is of the kind `owner`.
 #[cycle(nodes)]
 #[tactic(auto, using(crate::proofs::KeptLaws::kept))]
-pub(crate) fn read_children(
-    alloc: Global,
-    value: &Value,
-    place: &Place<'_>,
+fn read_children(
+    here: &Here<'_>,
+    owner: Kind,
     parent: NodeId,
     draft: &mut Draft,
 ) -> Result<(), ReadFault>
     requires { IsPlace (parents draft.old.nodes) (Some parent.0) }
-    ensures steps { Steps result draft.old draft.new
-        (children_events (kinds_in Group) (named_at draft.old.nodes parent.0) (pointer place.now)
-        (members_of (view value.now)))
-        (λ _. draft.new.nodes ≡ draft.old.nodes ++ preorders (Some parent.0) (length draft.old.nodes)
-        (child_nodes (kinds_in Group) (members_of (view value.now)))) }
+    ensures walk { Puts result (children (record { owner = kind_of owner; named = named_at draft.old.nodes parent.0 }) (spot_of here.now))
+        (counts draft.old) (counts draft.new)
+        (λ found _. draft.new.nodes ≡ draft.old.nodes
+        ++ preorders (Some parent.0) (length draft.old.nodes) (nodes_of found)) }
     ensures kept { IsExtended draft.old.names draft.new.names }
 {
-    let children = child_values(alloc, value, place)?;
-    let within = Place::Member(&*place, "children");
-    for (i, child) in children.iter().enumerate() {
-        read_child(alloc, child, &Place::Element(&within, i), parent, draft)?;
+    let Some(list) = here.optional("children") else {
+        return Ok(());
+    };
+    let values = list.elements()?;
+    for (i, value) in values.iter().enumerate() {
+        read_child(&list.element(i, value), owner, parent, draft)?;
     }
     Ok(())
 }
 
-/// A child of a set or a group.
+/// A child of a node of the kind `owner`.
 #[cycle(nodes)]
 #[tactic(auto, using(crate::proofs::KeptLaws::kept))]
 fn read_child(
-    alloc: Global,
-    value: &Value,
-    place: &Place<'_>,
+    here: &Here<'_>,
+    owner: Kind,
     parent: NodeId,
     draft: &mut Draft,
 ) -> Result<(), ReadFault>
     requires { IsPlace (parents draft.old.nodes) (Some parent.0) }
-    ensures steps { Steps result draft.old draft.new
-        (node_events (kinds_in Group) (named_at draft.old.nodes parent.0) (pointer place.now) (view value.now))
-        (λ _. draft.new.nodes ≡ draft.old.nodes ++ preorders (Some parent.0) (length draft.old.nodes)
-        (child_node (kinds_in Group) (view value.now))) }
+    ensures walk { Puts result (at_spot child (record { owner = kind_of owner; named = named_at draft.old.nodes parent.0 }) (spot_of here.now))
+        (counts draft.old) (counts draft.new)
+        (λ found _. draft.new.nodes ≡ draft.old.nodes
+        ++ preorders (Some parent.0) (length draft.old.nodes) (nodes_of (found ∷ []))) }
     ensures kept { IsExtended draft.old.names draft.new.names }
 {
-    match read_group_child(alloc, value, place)? {
-        GroupChild::Group => read_group(alloc, value, &*place, parent, draft),
-        GroupChild::Leaf => read_leaf(alloc, value, place, parent, draft),
-        GroupChild::Instance => Ok(()),
+    match read_child_kind(here, owner)? {
+        ChildKind::Group => read_node(here, Kind::Group, Some(parent), draft),
+        ChildKind::Leaf => read_node(here, Kind::Leaf, Some(parent), draft),
+        ChildKind::Alias => Err(here.fault(Why::NotYet)),
+        ChildKind::Instance => Ok(()),
     }
 }
 
-/// A group, and the nodes below it.
+/// A node of a kind, and the nodes below it. It is put below a node, or alone.
 #[cycle(nodes)]
-#[tactic(auto, using(crate::proofs::KeptLaws::kept))]
-fn read_group(
-    alloc: Global,
-    value: &Value,
-    place: &Place<'_>,
-    parent: NodeId,
+#[tactic(auto, using(crate::proofs::StepRules::steps))]
+pub(crate) fn read_node(
+    here: &Here<'_>,
+    kind: Kind,
+    parent: Option<NodeId>,
     draft: &mut Draft,
 ) -> Result<(), ReadFault>
-    requires { IsPlace (parents draft.old.nodes) (Some parent.0) }
-    ensures steps { Steps result draft.old draft.new
-        (own_events Group (named_at draft.old.nodes parent.0) (pointer place.now) (members_of (view value.now))
-        ++ children_events (kinds_in Group)
-        (named_at draft.old.nodes parent.0 + named_items (members_of (view value.now))) (pointer place.now)
-        (members_of (view value.now)))
-        (λ _. draft.new.nodes ≡ draft.old.nodes
-        ++ preorder (Some parent.0) (length draft.old.nodes) (node_of Group (view value.now))) }
+    requires { IsPlace (parents draft.old.nodes) (option_map (λ p. p.0) parent) }
+    ensures walk { Puts result (whole (kind_of kind) (named_above draft.old.nodes (option_map (λ p. p.0) parent)) (spot_of here.now))
+        (counts draft.old) (counts draft.new)
+        (λ n _. draft.new.nodes ≡ draft.old.nodes
+        ++ preorder (option_map (λ p. p.0) parent) (length draft.old.nodes) n) }
     ensures kept { IsExtended draft.old.names draft.new.names }
 {
-    let node = read_own(alloc, value, place, Kind::Group, Some(parent), draft)?;
-    read_children(alloc, value, &*place, node, draft)
+    let node = read_own(here, kind, parent, draft)?;
+    read_children(here, kind, node, draft)
 }
 
-/// A leaf. Its children are not read yet.
-fn read_leaf(
-    alloc: Global,
-    value: &Value,
-    place: &Place<'_>,
-    parent: NodeId,
+/// The kind of a child of a node of that kind.
+fn read_child_kind(here: &Here<'_>, owner: Kind) -> Result<ChildKind, ReadFault>
+    ensures { Gives result (kind (kind_named (kinds_in (kind_of owner))) (spot_of here.now)) child_kind_of }
+{
+    match kind_below(owner, here.kind()?) {
+        Some(kind) => Ok(kind),
+        None => Err(here.fault(Why::UnlistedKind)),
+    }
+}
+
+fn kind_below(owner: Kind, text: &str) -> Option<ChildKind>
+    ensures { option_map child_kind_of result ≡ kind_named (kinds_in (kind_of owner)) text.now }
+{
+    match owner {
+        Kind::Set => kind_in_group(text),
+        Kind::Group => kind_in_group(text),
+        Kind::Leaf => kind_in_leaf(text),
+        Kind::Alias => None,
+    }
+}
+
+fn kind_in_group(text: &str) -> Option<ChildKind>
+    ensures { option_map child_kind_of result ≡ kind_named (kinds_in Group) text.now }
+{
+    if "Instruction.InstructionGroup" == text {
+        Some(ChildKind::Group)
+    } else if "Instruction.Instruction" == text {
+        Some(ChildKind::Leaf)
+    } else if "Instruction.InstructionInstance" == text {
+        Some(ChildKind::Instance)
+    } else {
+        None
+    }
+}
+
+fn kind_in_leaf(text: &str) -> Option<ChildKind>
+    ensures { option_map child_kind_of result ≡ kind_named (kinds_in Leaf) text.now }
+{
+    if "Instruction.InstructionAlias" == text {
+        Some(ChildKind::Alias)
+    } else if "Instruction.InstructionInstance" == text {
+        Some(ChildKind::Instance)
+    } else {
+        None
+    }
+}
+
+/// What a node says of itself: it is put below a node, or alone, with the items of its encodeset.
+#[tactic(auto, using(crate::proofs::KeptLaws::kept))]
+fn read_own(
+    here: &Here<'_>,
+    kind: Kind,
+    parent: Option<NodeId>,
     draft: &mut Draft,
-) -> Result<(), ReadFault>
-    requires { IsPlace (parents draft.old.nodes) (Some parent.0) }
-    ensures steps { Steps result draft.old draft.new
-        (own_events Leaf (named_at draft.old.nodes parent.0) (pointer place.now) (members_of (view value.now))
-        ++ children_events (kinds_in Leaf)
-        (named_at draft.old.nodes parent.0 + named_items (members_of (view value.now))) (pointer place.now)
-        (members_of (view value.now)))
-        (λ _. draft.new.nodes ≡ draft.old.nodes
-        ++ preorder (Some parent.0) (length draft.old.nodes) (node_of Leaf (view value.now))) }
+) -> Result<NodeId, ReadFault>
+    requires { IsPlace (parents draft.old.nodes) (option_map (λ p. p.0) parent) }
+    ensures walk { Puts result (own (kind_of kind) (named_above draft.old.nodes (option_map (λ p. p.0) parent)) (spot_of here.now))
+        (counts draft.old) (counts draft.new)
+        (λ o id. (id.0 ≡ length draft.old.nodes)
+        × (draft.new.nodes ≡ draft.old.nodes ++ record { parent = option_map (λ p. p.0) parent; own = o } ∷ [])) }
     ensures kept { IsExtended draft.old.names draft.new.names }
 {
-    read_own(alloc, value, place, Kind::Leaf, Some(parent), draft)?;
-    refuse_aliases(alloc, value, place)
+    let text = read_name(here)?;
+    let name = draft.name(text, here)?;
+    let node = draft.node(kind, name, parent, here)?;
+    read_encoding(here, draft)?;
+    refuse_condition(here)?;
+    Ok(node)
+}
+
+/// The text of a node's name.
+pub(crate) fn read_name<'h>(here: &'h Here<'_>) -> Result<&'h str, ReadFault>
+    ensures { Gives result (node_name (spot_of here.now)) (λ t. t.now) }
+{
+    let place = here.needed("name")?;
+    let text = place.text()?;
+    if !is_name(text) {
+        return Err(place.fault(Why::BadName));
+    }
+    Ok(text)
+}
+
+/// The encodeset of the last node, if it has one.
+#[tactic(auto, using(crate::proofs::KeptLaws::kept))]
+fn read_encoding(here: &Here<'_>, draft: &mut Draft) -> Result<(), ReadFault>
+    requires some { 0 < length draft.old.nodes }
+    requires bare { last_items draft.old.nodes ≡ [] }
+    ensures walk { Puts result (optional (codes "encoding") (encodeset (last_named draft.old.nodes)) (spot_of here.now))
+        (counts draft.old) (counts draft.new)
+        (λ items _. draft.new.nodes ≡ with_items (unwrap_or items []) draft.old.nodes) }
+    ensures kept { IsExtended draft.old.names draft.new.names }
+{
+    match here.optional("encoding") {
+        None => Ok(()),
+        Some(set) => read_encodeset(&set, draft),
+    }
+}
+
+/// A condition is not read yet.
+fn refuse_condition(here: &Here<'_>) -> Result<(), ReadFault>
+    ensures { Gives result (optional (codes "condition") condition (spot_of here.now)) (λ _. None) }
+{
+    match here.optional("condition") {
+        None => Ok(()),
+        Some(condition) => Err(condition.fault(Why::NotYet)),
+    }
 }

@@ -1,13 +1,13 @@
 -- Laws of answers: what one reader gave is what the walk around it gives.
-use Rattle.std.proofs.Common.{◌≡◌, ◌∙◌, sym, ap, refl, subst, ℕ, List, Option, Some, None, Result, Ok, Err}
+use Rattle.std.proofs.Common.{◌≡◌, ◌∙◌, sym, ap, subst, ℕ, List, Option, Some, None, Result, Ok, Err}
 use Rattle.std.specs.Bool.{⊤}
 use Rattle.std.specs.Result.{IsErrAnd}
 use Rattle.spec_walk.specs.Event.{Why, Fault}
 use Rattle.spec_walk.specs.Limits.{Counts}
-use Rattle.spec_walk.specs.Walk.{Walk, Done, Stop, ◌>>>◌, gives}
+use Rattle.spec_walk.specs.Walk.{Walk, Done, ◌>>>◌, gives}
 use Rattle.spec_walk.specs.Spot.{Spot, wrong, member_at, if_there, optional}
 use Rattle.spec_walk.proofs.WalkLaws.{gives-next, gives-stops}
-use Rattle.mrs_walk.specs.Gives.{Gives, Fails, Ends, Puts}
+use Rattle.mrs_walk.specs.Gives.{Gives, Fails, Puts}
 use Rattle.mrs_walk.specs.declared.fault.ReadFault.{ReadFault}
 use Rattle.mrs_walk.specs.declared.fault.ReadFault.TheVariants.{Schema, NoMemory}
 
@@ -35,16 +35,6 @@ pub Puts-then : {T A B : Type 0} (r : Result T ReadFault) (w : Walk A) (next : A
 Puts-then (Ok y) w next x c d e P passed h = record { value = h.value; walked = gives-next w next c d x passed ∙ h.walked; stands = h.stands }
 Puts-then (Err f) w next x c d e P passed h = Fails-same f _ _ (gives-next w next c d x passed) h
 
-pub Puts-weaker : {T A : Type 0} (r : Result T ReadFault) (w : Walk A) (c d : Counts) (P Q : A → T → Type 0) → ((a : A) (x : T) → P a x → Q a x) → Puts r w c d P → Puts r w c d Q
-Puts-weaker (Ok x) w c d P Q f h = record { value = h.value; walked = h.walked; stands = f h.value x h.stands }
-Puts-weaker (Err e) w c d P Q f h = h
-
--- a walk that meets nothing leaves the counts as they are
-pub Puts-plain : {T A : Type 0} (r : Result T ReadFault) (w : Walk A) (stands : T → A) (c : Counts) → Gives r w stands → Puts r w c c (λ a x. a ≡ stands x)
-Puts-plain (Ok x) w stands c h = record { value = stands x; walked = ap (λ v. gives v c) h; stands = refl }
-Puts-plain (Err (Schema f)) w stands c h = ap (λ v. gives v c) h
-Puts-plain (Err NoMemory) w stands c h = tt
-
 pub Puts-same : {T A : Type 0} (r : Result T ReadFault) (v w : Walk A) (c d : Counts) (P : A → T → Type 0) → w ≡ v → Puts r v c d P → Puts r w c d P
 Puts-same {A = A} r v w c d P is h = subst (λ (u : Walk A). Puts r u c d P) (sym is) h
 
@@ -52,9 +42,6 @@ Puts-same {A = A} r v w c d P is h = subst (λ (u : Walk A). Puts r u c d P) (sy
 pub Puts-last : {T A B : Type 0} (r : Result T ReadFault) (w : Walk A) (make : A → B) (c d : Counts) (P : A → T → Type 0) (Q : B → T → Type 0) → ((a : A) (x : T) → P a x → Q (make a) x) → Puts r w c d P → Puts r (w >>> λ a. Done (make a)) c d Q
 Puts-last (Ok x) w make c d P Q f h = record { value = make h.value; walked = gives-next w (λ a. Done (make a)) c d h.value h.walked; stands = f h.value x h.stands }
 Puts-last (Err e) w make c d P Q f h = Fails-then e w (λ a. Done (make a)) c h
-
-pub Ends-next : {A B : Type 0} (w : Walk A) (next : A → Walk B) (x : A) (c d e : Counts) (P : B → Type 0) → gives w c ≡ Ok (x, d) → Ends (next x) d e P → Ends (w >>> next) c e P
-Ends-next w next x c d e P passed h = record { value = h.value; walked = gives-next w next c d x passed ∙ h.walked; stands = h.stands }
 
 -- a fault of a walk that meets nothing
 pub Fails-plain : {T A : Type 0} (e : ReadFault) (w : Walk A) (stands : T → A) (c : Counts) → Gives (Err e) w stands → Fails e (gives w c)

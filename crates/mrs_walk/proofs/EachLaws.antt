@@ -1,12 +1,12 @@
 -- The loop over the elements of an array: the walk over those that are left.
-use Rattle.std.proofs.Common.{◌≡◌, ◌∙◌, sym, ap, subst, refl, ℕ, ◌+◌, ◌<◌, ◌≤◌, List, [], ◌∷◌, ◌++◌, length, get_or, drop, length-append, Result, Ok, Err}
+use Rattle.std.proofs.Common.{◌≡◌, ◌∙◌, sym, ap, refl, ℕ, ◌+◌, ◌<◌, ◌≤◌, List, [], ◌∷◌, ◌++◌, length, get_or, drop, length-append, Ok}
 use Rattle.std.proofs.lemmas.List.{at_drop_more, at_drop_all}
 use Rattle.serde_json.specs.Data.{item}
 use Rattle.serde_json.specs.View.{view, items_view}
 use Rattle.serde_json.specs.declared.value.Value.{Value}
 use Rattle.spec_walk.specs.Pointer.{element}
 use Rattle.spec_walk.specs.Limits.{Counts}
-use Rattle.spec_walk.specs.Walk.{Walk, Done, ◌>>>◌, gives}
+use Rattle.spec_walk.specs.Walk.{Walk, ◌>>>◌, gives}
 use Rattle.spec_walk.specs.Spot.{Spot, spot, each}
 use Rattle.spec_walk.proofs.WalkLaws.{gives-next}
 use Rattle.mrs_walk.specs.Gives.{Fails}

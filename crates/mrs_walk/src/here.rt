@@ -2,7 +2,7 @@
 
 ghost use Rattle.std.specs.Prelude.{◌≡◌, ◌^◌};
 ghost use Rattle.serde_json.specs.View.{view};
-ghost use Rattle.spec_walk.specs.Members.{whole_number};
+ghost use Rattle.spec_walk.specs.Spot.{whole_number};
 
 use crate::fault::{ReadFault, SchemaFault, Why};
 use crate::place::Place;
@@ -22,15 +22,14 @@ impl<'a> Here<'a> {
     ghost use Rattle.std.specs.Prelude.{◌≡◌, ◌<◌, ◌^◌, [], option_map, codes, length, Err, ⊤};
     ghost use Rattle.serde_json.specs.View.{view, items_view};
     ghost use Rattle.spec_walk.specs.Pointer.{element};
-    ghost use Rattle.spec_walk.specs.Members.{whole_number};
-    ghost use Rattle.spec_walk.specs.Spot.{wrong, an_object, elements, text, needed, number_below, member_at, below, exactly, kind_text};
+    ghost use Rattle.spec_walk.specs.Spot.{root, wrong, an_object, elements, text, whole_number, needed, number_below, member_at, below, exactly, kind_text};
     ghost use Rattle.mrs_walk.specs.Faults.{why_of};
     ghost use Rattle.mrs_walk.specs.Here.{spot_of};
     ghost use Rattle.mrs_walk.specs.Gives.{Gives};
 
     /// A whole document.
     pub fn root(alloc: Global, value: &'a Value) -> Here<'a>
-        ensures { spot_of result ≡ record { at = []; value = view value.now } }
+        ensures { spot_of result ≡ root (view value.now) }
     {
         Here {
             alloc,

@@ -3,3 +3,4 @@ pub mod PatternLaws
 pub mod ItemLaws
 pub mod TextLaws
 pub mod Worked
+pub mod AppendLaws

@@ -3,13 +3,13 @@ use Rattle.std.proofs.Common.{◌≡◌, ap, refl, ℕ, ◌+◌, ◌-◌, ◌≤
 use Rattle.std.specs.Prelude.{position, filter_map}
 use Rattle.std.proofs.lemmas.Bool.{ltb-false, eqb-false}
 use Rattle.spec_bits.specs.Pattern.{Digit}
-use Rattle.spec_bits.specs.PatternText.{Empty, TooWide, Unquoted, digit_of, is_foreign, judged, unquoted, opens, closes, pattern_in}
+use Rattle.spec_bits.specs.PatternText.{Empty, TooWide, Unquoted, digit_of, is_foreign, digits_judged, unquoted, opens, closes, pattern_in}
 
 -- a pattern has 1 to 128 digits
 abbrev pub IsPattern : List Digit → Type 0
 IsPattern ds = (1 ≤ length ds) × (length ds ≤ 128)
 
-judged-Ok : (foreign : Option ℕ) (found ds : List Digit) → judged foreign found ≡ Ok ds → IsPattern ds
+judged-Ok : (foreign : Option ℕ) (found ds : List Digit) → digits_judged foreign found ≡ Ok ds → IsPattern ds
 judged-Ok (Some at) found ds h = absurd (cc)
 judged-Ok None found ds h = go (nat_lt 128 (length found)) refl (length found == 0) refl h
   where

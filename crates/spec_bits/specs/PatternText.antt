@@ -18,13 +18,13 @@ abbrev pub is_foreign : ℕ → Bool
 is_foreign byte = not (byte == 32) && is_none (digit_of byte)
 
 -- 1 to 128 digits are a pattern, where no foreign byte stands among them
-abbrev pub judged : Option ℕ → List Digit → Result (List Digit) PatternRefusal
-judged (Some at) digits = Err (BadChar at)
-judged None digits = if nat_lt 128 (length digits) then Err TooWide else (if length digits == 0 then Err Empty else Ok digits)
+abbrev pub digits_judged : Option ℕ → List Digit → Result (List Digit) PatternRefusal
+digits_judged (Some at) digits = Err (BadChar at)
+digits_judged None digits = if nat_lt 128 (length digits) then Err TooWide else (if length digits == 0 then Err Empty else Ok digits)
 
 -- what `bytes`, which begin at place `start` of the text, say without quotes: spaces are skipped, and the first foreign byte is refused at its place in the text
 abbrev pub unquoted : ℕ → List ℕ → Result (List Digit) PatternRefusal
-unquoted start bytes = judged (option_map (λ k. start + k) (position is_foreign bytes)) (filter_map digit_of bytes)
+unquoted start bytes = digits_judged (option_map (λ k. start + k) (position is_foreign bytes)) (filter_map digit_of bytes)
 
 -- the text's first byte is a quote, `'`; its last byte is
 abbrev pub opens : List ℕ → Bool

@@ -1,55 +1,60 @@
--- Worked values: command lines.
+-- Worked values: request lines.
 use Rattle.std.specs.Prelude.{◌≡◌, [], ◌∷◌, Some, None, Ok, Err, codes, refl}
-use Rattle.spec_command.specs.Verb.{ListWords, Leaf}
-use Rattle.spec_command.specs.Command.{command, value_of}
+use Rattle.spec_command.specs.Setting.{value_in}
+use Rattle.spec_command.specs.Commands.{AskList, AskLeaf, leaf_command}
+use Rattle.spec_command.specs.Request.{request}
 
-no_word : command [] ≡ Err 0
+no_word : request [] ≡ Err 0
 no_word = refl
 
-no_command : command (codes "--help" ∷ []) ≡ Err 0
+no_command : request (codes "--help" ∷ []) ≡ Err 0
 no_command = refl
 
-no_document : command (codes "list" ∷ []) ≡ Err 1
+no_document : request (codes "list" ∷ []) ≡ Err 1
 no_document = refl
 
-other_key : command (codes "list" ∷ codes "insns=i" ∷ codes "jobs=0" ∷ []) ≡ Err 2
+other_key : request (codes "list" ∷ codes "insns=i" ∷ codes "jobs=0" ∷ []) ≡ Err 2
 other_key = refl
 
-key_twice : command (codes "list" ∷ codes "insns=i" ∷ codes "insns=i" ∷ []) ≡ Err 2
+key_twice : request (codes "list" ∷ codes "insns=i" ∷ codes "insns=i" ∷ []) ≡ Err 2
 key_twice = refl
 
-empty_value : command (codes "list" ∷ codes "insns=" ∷ []) ≡ Err 1
+empty_value : request (codes "list" ∷ codes "insns=" ∷ []) ≡ Err 1
 empty_value = refl
 
-no_equals : command (codes "list" ∷ codes "insns" ∷ []) ≡ Err 1
+no_equals : request (codes "list" ∷ codes "insns" ∷ []) ≡ Err 1
 no_equals = refl
 
-empty_key : command (codes "list" ∷ codes "=x" ∷ []) ≡ Err 1
+empty_key : request (codes "list" ∷ codes "=x" ∷ []) ≡ Err 1
 empty_key = refl
 
-first_equals : command (codes "list" ∷ codes "insns=a=b" ∷ []) ≡ Ok (record { verb = ListWords; pairs = (codes "insns", codes "a=b") ∷ [] })
+first_equals : request (codes "list" ∷ codes "insns=a=b" ∷ []) ≡ Ok (AskList (record { insns = codes "a=b"; isa = codes "A64" }))
 first_equals = refl
 
-no_label : command (codes "leaf" ∷ codes "insns=i" ∷ []) ≡ Err 2
+no_label : request (codes "leaf" ∷ codes "insns=i" ∷ []) ≡ Err 2
 no_label = refl
 
-label_alone : command (codes "leaf" ∷ codes "label=x" ∷ []) ≡ Err 2
+label_alone : request (codes "leaf" ∷ codes "label=x" ∷ []) ≡ Err 2
 label_alone = refl
 
-any_order : command (codes "leaf" ∷ codes "label=x" ∷ codes "insns=i" ∷ codes "isa=A64" ∷ [])
-    ≡ Ok (record { verb = Leaf; pairs = (codes "label", codes "x") ∷ (codes "insns", codes "i") ∷ (codes "isa", codes "A64") ∷ [] })
+any_order : request (codes "leaf" ∷ codes "label=x" ∷ codes "insns=i" ∷ codes "isa=A64" ∷ [])
+    ≡ Ok (AskLeaf (record { insns = codes "i"; isa = codes "A64" }) (codes "x"))
 any_order = refl
 
-set_alone : command (codes "list" ∷ codes "isa=X" ∷ []) ≡ Err 2
+set_alone : request (codes "list" ∷ codes "isa=X" ∷ []) ≡ Err 2
 set_alone = refl
 
 -- a bad word comes before a missing key
-bad_before_missing : command (codes "list" ∷ codes "isa=X" ∷ codes "label=x" ∷ []) ≡ Err 2
+bad_before_missing : request (codes "list" ∷ codes "isa=X" ∷ codes "label=x" ∷ []) ≡ Err 2
 bad_before_missing = refl
 
--- the first word of a key gives its value
-first_value : value_of (codes "insns") (record { verb = ListWords; pairs = (codes "isa", codes "A") ∷ (codes "insns", codes "i") ∷ (codes "insns", codes "j") ∷ [] }) ≡ Some (codes "i")
+-- the keys of a command are those that its request is made of
+leaf_keys : leaf_command.asks.keys ≡ codes "insns" ∷ codes "isa" ∷ codes "label" ∷ []
+leaf_keys = refl
+
+-- the first setting of a key gives its value
+first_value : value_in (codes "insns") ((codes "isa", codes "A") ∷ (codes "insns", codes "i") ∷ (codes "insns", codes "j") ∷ []) ≡ Some (codes "i")
 first_value = refl
 
-no_value : value_of (codes "max") (record { verb = ListWords; pairs = (codes "insns", codes "i") ∷ [] }) ≡ None
+no_value : value_in (codes "max") ((codes "insns", codes "i") ∷ []) ≡ None
 no_value = refl

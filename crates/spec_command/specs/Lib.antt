@@ -1,3 +1,4 @@
-pub mod Verb
 pub mod Setting
-pub mod Command
+pub mod Ask
+pub mod Commands
+pub mod Request

@@ -1,3 +1,6 @@
-pub mod Shapes
 pub mod Worked
 pub mod WorkedPaths
+pub mod ShapeLaws
+pub mod MergedLaws
+pub mod VisibleLaws
+pub mod LabelLaws

@@ -1,14 +1,16 @@
 -- Worked values: what the definitions say of small documents.
-use Rattle.std.specs.Prelude.{◌≡◌, ℕ, List, [], ◌∷◌, Option, Some, Result, Ok, Err, option_map, codes, map, refl}
+use Rattle.std.specs.Prelude.{◌≡◌, ℕ, List, [], ◌∷◌, Option, Some, Result, Ok, Err, option_map, codes, map, refl, true, false}
 use Rattle.std.specs.Fmt.{digits}
 use Rattle.serde_json.specs.Read.{read}
 use Rattle.serde_json.proofs.OnLiterals.{serde_json_on_literals}
+use Rattle.spec_bits.specs.Pattern.{One, Either}
 use Rattle.spec_bits.specs.PatternText.{Unquoted}
 use Rattle.spec_walk.specs.Event.{Why, Fault, Missing, UnlistedKind, WrongShape, BadPattern, BadRange, BadName, Doubled, NoSet, NotYet}
 use Rattle.spec_walk.specs.Limits.{◌>>=◌}
-use Rattle.spec_instructions.specs.Kind.{Set, Leaf}
-use Rattle.spec_instructions.specs.Paths.{document_paths, path_name}
-use Rattle.spec_instructions.specs.Reading.{paths_read}
+use Rattle.spec_instructions.specs.Kind.{Set, Group, Leaf}
+use Rattle.spec_instructions.specs.Tree.{node, no_nodes, more, bare}
+use Rattle.spec_instructions.specs.Paths.{path_name}
+use Rattle.spec_instructions.specs.Reading.{tree_read, paths_read}
 
 -- the names of the leaves of a text, with the set `A64` chosen, or its first fault
 abbrev leaves_in : List ℕ → Option (Result (List (List ℕ)) Fault)
@@ -57,17 +59,18 @@ two_leaves : leaves_in (codes "{\"instructions\":[{\"_type\":\"Instruction.Instr
 unfolding digits serde_json_on_literals
 two_leaves = refl
 
--- the set of the one field
-field_set : option_map (λ d. document_paths (codes "A64") d) (read (codes "{\"instructions\":[{\"_type\":\"Instruction.InstructionSet\",\"name\":\"A64\",\"encoding\":{\"_type\":\"Instruction.Encodeset.Encodeset\",\"width\":32,\"values\":[{\"_type\":\"Instruction.Encodeset.Field\",\"name\":\"op0\",\"range\":{\"start\":26,\"width\":3},\"value\":{\"_type\":\"Values.Value\",\"value\":\"'100'\"}}]}}]}")) ≡ Some []
-unfolding digits serde_json_on_literals
-field_set = refl
-
 -- a set with two leaves of one name, all without items: the paths to the leaves
-namesakes : option_map (λ d. document_paths (codes "A64") d) (read (codes "{\"instructions\":[{\"_type\":\"Instruction.InstructionSet\",\"name\":\"A64\",\"children\":[{\"_type\":\"Instruction.Instruction\",\"name\":\"DUP\"},{\"_type\":\"Instruction.Instruction\",\"name\":\"DUP\"}]}]}"))
-    ≡ Some ((record { kind = Set; name = codes "A64"; items = [] } ∷ record { kind = Leaf; name = codes "DUP"; items = [] } ∷ [])
-    ∷ (record { kind = Set; name = codes "A64"; items = [] } ∷ record { kind = Leaf; name = codes "DUP"; items = [] } ∷ []) ∷ [])
+namesakes : option_map (λ d. paths_read (codes "A64") [] d) (read (codes "{\"instructions\":[{\"_type\":\"Instruction.InstructionSet\",\"name\":\"A64\",\"children\":[{\"_type\":\"Instruction.Instruction\",\"name\":\"DUP\"},{\"_type\":\"Instruction.Instruction\",\"name\":\"DUP\"}]}]}"))
+    ≡ Some (Ok ((bare Set (codes "A64") ∷ bare Leaf (codes "DUP") ∷ [])
+    ∷ (bare Set (codes "A64") ∷ bare Leaf (codes "DUP") ∷ []) ∷ []))
 unfolding digits serde_json_on_literals
 namesakes = refl
+
+-- the tree of a set with a group, its leaf, an instance and a field: names take numbers in the order in which they are met
+small_tree : option_map (λ d. tree_read (codes "A64") (codes "Rd" ∷ []) d) (read (codes "{\"instructions\":[{\"_type\":\"Instruction.InstructionSet\",\"name\":\"A64\",\"children\":[{\"_type\":\"Instruction.InstructionGroup\",\"name\":\"g\",\"encoding\":{\"_type\":\"Instruction.Encodeset.Encodeset\",\"width\":32,\"values\":[{\"_type\":\"Instruction.Encodeset.Field\",\"name\":\"Rd\",\"range\":{\"start\":3,\"width\":2},\"value\":{\"_type\":\"Values.Value\",\"value\":\"'1x'\"},\"should_be_mask\":{\"_type\":\"Values.Value\",\"value\":\"11\"}}]},\"children\":[{\"_type\":\"Instruction.Instruction\",\"name\":\"l\"},{\"_type\":\"Instruction.InstructionInstance\"}]}]}]}"))
+    ≡ Some (Ok (node (bare Set (codes "A64")) (more (node (record { kind = Group; name = codes "g"; items = record { name = Some (codes "Rd"); start = 3; digits = One ∷ Either ∷ []; marks = true ∷ false ∷ [] } ∷ [] }) (more (node (bare Leaf (codes "l")) no_nodes) no_nodes)) no_nodes), record { held = codes "Rd" ∷ codes "A64" ∷ codes "g" ∷ codes "l" ∷ []; nodes = 3; leaves = 1; aliases = 0 }))
+unfolding digits serde_json_on_literals
+small_tree = refl
 
 -- a condition is not read yet
 conditioned : leaves_in (codes "{\"instructions\":[{\"_type\":\"Instruction.InstructionSet\",\"name\":\"A64\",\"condition\":null,\"children\":[{\"_type\":\"Instruction.Instruction\",\"name\":\"l\",\"condition\":{}}]}]}") ≡ at_place (codes "/instructions/0/children/0/condition") NotYet

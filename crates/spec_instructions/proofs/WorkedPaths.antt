@@ -1,19 +1,20 @@
 -- Worked values: labels of leaves, and the fields and bits of paths.
-use Rattle.std.specs.Prelude.{◌≡◌, ℕ, List, [], ◌∷◌, Option, Some, None, map, false, codes, refl}
+use Rattle.std.specs.Prelude.{◌≡◌, ℕ, List, [], ◌∷◌, Option, Some, None, map, true, false, Result, Ok, Err, codes, refl}
 use Rattle.std.specs.Fmt.{digits}
 use Rattle.spec_bits.specs.Pattern.{Digit}
-use Rattle.spec_bits.specs.PatternText.{pattern_in}
+use Rattle.spec_bits.specs.PatternText.{PatternRefusal, pattern_in}
 use Rattle.spec_bits.specs.Item.{Item}
-use Rattle.spec_walk.specs.Event.{TooMany}
-use Rattle.spec_walk.specs.Members.{wrong}
 use Rattle.spec_instructions.specs.Kind.{Kind, Set, Group, Leaf}
-use Rattle.spec_instructions.specs.Encodeset.{within_limits}
-use Rattle.spec_instructions.specs.EncodesetItems.{digits_read, is_binary}
+use Rattle.spec_instructions.specs.Encodeset.{is_binary, within_limits}
 use Rattle.spec_instructions.specs.Tree.{Own}
 use Rattle.spec_instructions.specs.Paths.{label, labelled_leaf}
 use Rattle.spec_instructions.specs.Fields.{fields, merged}
 
--- the digits of a text, and items with such digits
+-- the digits of a text that is a pattern, and items with such digits
+abbrev digits_read : Result (List Digit) PatternRefusal → List Digit
+digits_read (Ok digits) = digits
+digits_read (Err refusal) = []
+
 abbrev digits_in : List ℕ → List Digit
 digits_in text = digits_read (pattern_in text)
 
@@ -119,11 +120,11 @@ load_bits = refl
 
 -- ---- limits of an item
 
-last_item : within_limits 63 256 (codes "/values/63") ≡ []
+last_item : within_limits 63 256 ≡ true
 last_item = refl
 
-one_item_too_many : within_limits 64 0 (codes "/values/64") ≡ wrong (codes "/values/64") TooMany
+one_item_too_many : within_limits 64 0 ≡ false
 one_item_too_many = refl
 
-one_named_item_too_many : within_limits 0 257 (codes "/values/0") ≡ wrong (codes "/values/0") TooMany
+one_named_item_too_many : within_limits 0 257 ≡ false
 one_named_item_too_many = refl

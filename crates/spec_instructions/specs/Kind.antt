@@ -1,7 +1,5 @@
 -- The kinds of objects that make up the tree of instructions, and where each may stand.
-use Rattle.std.specs.Prelude.{ℕ, List, [], ◌∷◌, Option, codes, bytes_eq, find, option_and_then}
-use Rattle.serde_json.specs.Data.{Data}
-use Rattle.serde_json.specs.Find.{get, as_str}
+use Rattle.std.specs.Prelude.{ℕ, List, [], ◌∷◌, Option, codes, bytes_eq, find}
 
 -- a set of instructions, a group of nodes, a leaf, which is one instruction, an alias of a leaf, and an instance, which is passed over
 pub data Kind : Type 0 where
@@ -30,7 +28,3 @@ kinds_in Instance = []
 -- the one of these kinds that a text names
 abbrev pub kind_named : List Kind → List ℕ → Option Kind
 kind_named kinds text = find (λ k. bytes_eq (kind_text k) text) kinds
-
--- the one of these kinds that an object is of, by its `_type`
-abbrev pub kind_among : List Kind → Data → Option Kind
-kind_among kinds d = option_and_then (kind_named kinds) (option_and_then as_str (get (codes "_type") d))

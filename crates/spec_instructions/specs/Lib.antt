@@ -1,9 +1,10 @@
 pub mod Name
+pub mod Limits
 pub mod Kind
 pub mod Encodeset
-pub mod EncodesetItems
-pub mod Walk
 pub mod Tree
+pub mod Walk
 pub mod Paths
 pub mod Fields
+pub mod Shape
 pub mod Reading

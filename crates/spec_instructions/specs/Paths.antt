@@ -1,10 +1,11 @@
 -- The paths from the set to each leaf, and the labels of leaves.
-use Rattle.std.specs.Prelude.{ℕ, List, [], ◌∷◌, ◌++◌, Option, Some, None, if◌then◌else◌, nat_lt, bytes_eq, count_by, decimal, flat_map, slice_index_or, Bool, find, length}
+use Rattle.std.specs.Prelude.{◌≡◌, ◌≢◌, ◌↔◌, ◌<◌, ◌≤◌, ℕ, List, [], ◌∷◌, ◌++◌, Option, Some, None, if◌then◌else◌, nat_lt, bytes_eq, count_by, decimal, flat_map, slice_index_or, Bool, true, find, length, All}
 use Rattle.std.specs.List.{range_with_len}
-use Rattle.serde_json.specs.Data.{Data}
 use Rattle.spec_bits.specs.Item.{Item}
+use Rattle.spec_walk.specs.Limits.{leaf_limit}
+use Rattle.spec_instructions.specs.Name.{is_name}
 use Rattle.spec_instructions.specs.Kind.{Kind, Set, Group, Leaf, Alias, Instance}
-use Rattle.spec_instructions.specs.Tree.{Own, Node, node, Nodes, no_nodes, more, document_set}
+use Rattle.spec_instructions.specs.Tree.{Own, Node, node, Nodes, no_nodes, more}
 
 -- a path ends at a leaf; what hangs below a set or a group is followed on
 abbrev pub paths_at : Kind → List Own → List (List Own) → List (List Own)
@@ -22,14 +23,6 @@ abbrev mutual
   pub paths_among : List Own → Nodes → List (List Own)
   paths_among above no_nodes = []
   paths_among above (more n ns) = paths_from above n ++ paths_among above ns
-
-abbrev pub paths_of_set : Option Node → List (List Own)
-paths_of_set None = []
-paths_of_set (Some set) = paths_from [] set
-
--- the paths of a document; leaf number k is the k-th, from 0
-abbrev pub document_paths : List ℕ → Data → List (List Own)
-document_paths isa d = paths_of_set (document_set isa d)
 
 -- the name of a path's last node
 abbrev pub path_name : List Own → List ℕ
@@ -58,3 +51,27 @@ has_label paths text k = bytes_eq (label paths k) text
 
 abbrev pub labelled_leaf : List (List Own) → List ℕ → Option ℕ
 labelled_leaf paths text = find (has_label paths text) (range_with_len 0 (length paths))
+
+-- ---- what labels are for
+
+-- leaf k has the label, and no leaf before it
+pub record IsFirstLabelled (paths : List (List Own)) (text : List ℕ) (k : ℕ) : Type 0 where
+  pub within : k < length paths
+  pub has : label paths k ≡ text
+  pub first : (j : ℕ) → j < k → label paths j ≢ text
+
+-- by a label the first leaf that has it is found, and none where no leaf has it
+pub record IsFoundByLabel (paths : List (List Own)) (text : List ℕ) : Type 0 where
+  pub some : (k : ℕ) → (labelled_leaf paths text ≡ Some k) ↔ IsFirstLabelled paths text k
+  pub none : (labelled_leaf paths text ≡ None) ↔ ((k : ℕ) → k < length paths → label paths k ≢ text)
+
+abbrev pub LabelsFindLeaves : Type 0
+LabelsFindLeaves = (paths : List (List Own)) (text : List ℕ) → IsFoundByLabel paths text
+
+-- no two leaves have one label, and each is found by its own, where the leaves' names are names, which hold no `#`, and the leaves no more than there may be
+pub record AreTold (paths : List (List Own)) : Type 0 where
+  pub distinct : (j k : ℕ) → j < length paths → k < length paths → label paths j ≡ label paths k → j ≡ k
+  pub found : (k : ℕ) → k < length paths → labelled_leaf paths (label paths k) ≡ Some k
+
+abbrev pub LabelsTellLeaves : Type 0
+LabelsTellLeaves = (paths : List (List Own)) → length paths ≤ leaf_limit → All (λ path. is_name (path_name path) ≡ true) paths → AreTold paths

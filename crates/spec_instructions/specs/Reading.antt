@@ -1,12 +1,18 @@
--- What an Instructions document gives: the paths to its leaves, or its first fault.
-use Rattle.std.specs.Prelude.{ℕ, List, Result, Ok}
+-- What an Instructions document gives: the tree of the chosen set and the paths to its leaves, or its first fault.
+use Rattle.std.specs.Prelude.{ℕ, List, [], Result, Ok}
 use Rattle.serde_json.specs.Data.{Data}
 use Rattle.spec_walk.specs.Event.{Fault}
-use Rattle.spec_walk.specs.Limits.{from_held, ◌>>=◌, judged}
-use Rattle.spec_instructions.specs.Walk.{instructions_events}
-use Rattle.spec_instructions.specs.Tree.{Own}
-use Rattle.spec_instructions.specs.Paths.{document_paths}
+use Rattle.spec_walk.specs.Limits.{Counts, from_held, ◌>>=◌}
+use Rattle.spec_walk.specs.Walk.{gives}
+use Rattle.spec_walk.specs.Spot.{root}
+use Rattle.spec_instructions.specs.Tree.{Own, Node}
+use Rattle.spec_instructions.specs.Walk.{instructions}
+use Rattle.spec_instructions.specs.Paths.{paths_from}
 
--- the paths of the set of that name, where the walk over the document meets no fault and passes no limit; `held` are the texts that have a number before it
+-- the tree of the set of that name with the counts behind the walk, where it meets no fault and passes no limit; `held` are the texts that have a number before it
+abbrev pub tree_read : List ℕ → List (List ℕ) → Data → Result (Node × Counts) Fault
+tree_read isa held d = gives (instructions isa (root d)) (from_held held)
+
+-- the paths to the leaves of that tree, leaf number k being the k-th, from 0
 abbrev pub paths_read : List ℕ → List (List ℕ) → Data → Result (List (List Own)) Fault
-paths_read isa held d = judged (instructions_events isa d) (from_held held) >>= λ counts. Ok (document_paths isa d)
+paths_read isa held d = tree_read isa held d >>= λ read. Ok (paths_from [] read.0)

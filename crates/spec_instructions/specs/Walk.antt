@@ -1,108 +1,110 @@
--- The walk over an Instructions document: its events in order, by cases on the JSON value.
-use Rattle.std.specs.Prelude.{ℕ, ◌+◌, List, [], ◌∷◌, ◌++◌, Bool, true, false, not, ◌&&◌, ◌||◌, Option, Some, None, is_some, codes, bytes_eq, count_by}
-use Rattle.serde_json.specs.Find.{get_member}
-use Rattle.std.specs.Ordering.{nat_cmp, match_ordering}
-use Rattle.std.specs.Cmp.Lexicographic.{slice_cmp}
-use Rattle.serde_json.specs.Data.{Data, null, array, object, Items, no_items, item, Members, no_members, member}
-use Rattle.spec_walk.specs.Pointer.{under, element}
-use Rattle.spec_walk.specs.Event.{ANode, ALeaf, AnAlias, Event, Name, OneMore, BadName, WrongShape, Doubled, NoSet, NotYet}
-use Rattle.spec_walk.specs.Members.{wrong, unless, in_object, in_array, in_text, needed, optional, typed}
+-- An Instructions document as a walk, whose value is the nested tree of the chosen set.
+use Rattle.std.specs.Prelude.{ℕ, ◌+◌, List, [], ◌∷◌, Bool, true, false, not, ◌&&◌, Option, Some, None, is_some, codes, bytes_eq, unwrap_or, ⊤}
+use Rattle.spec_walk.specs.Event.{ANode, ALeaf, AnAlias, BadName, Doubled, NoSet, NotYet}
+use Rattle.spec_walk.specs.Walk.{Walk, Done, ◌>>>◌}
+use Rattle.spec_walk.specs.Spot.{Spot, wrong, unless, needs, an_object, elements, text, needed, optional, kind, named, one_more, each}
+use Rattle.spec_walk.specs.Descend.{Inside, Reader, inside_of}
 use Rattle.spec_instructions.specs.Name.{is_name}
-use Rattle.spec_instructions.specs.Kind.{Kind, Set, Group, Leaf, Alias, Instance, kinds_in, kind_named, kind_among}
-use Rattle.spec_instructions.specs.Encodeset.{encodeset_events, text_at}
-use Rattle.spec_instructions.specs.EncodesetItems.{encodeset_items}
+use Rattle.spec_instructions.specs.Kind.{Kind, Set, Group, Leaf, Alias, Instance, kinds_in, kind_named}
+use Rattle.spec_instructions.specs.Encodeset.{encodeset, named_in}
+use Rattle.spec_instructions.specs.Tree.{Own, Node, node, Nodes, no_nodes, more}
 
--- a node's name: the limit on names comes directly after its text
-abbrev pub name_events : List ℕ → List ℕ → List ℕ → List Event
-name_events object_place at text = unless (is_name text) at BadName ++ Name object_place text ∷ []
+-- ---- what a node says of itself
+
+-- the text of the member `name`, which is a name
+abbrev pub node_name : Spot → Walk (List ℕ)
+node_name here =
+    needed (codes "name") here >>> λ place.
+    text place >>> λ s.
+    unless (is_name s) place BadName >>> λ _.
+    Done s
 
 -- one more node, and for a leaf or an alias one more of these
-abbrev pub counted : Kind → List ℕ → List Event
-counted Set at = OneMore ANode at ∷ []
-counted Group at = OneMore ANode at ∷ []
-counted Leaf at = OneMore ANode at ∷ OneMore ALeaf at ∷ []
-counted Alias at = OneMore ANode at ∷ OneMore AnAlias at ∷ []
-counted Instance at = []
+abbrev pub counted : Kind → Spot → Walk ⊤
+counted Set here = one_more ANode here
+counted Group here = one_more ANode here
+counted Leaf here = one_more ANode here >>> λ _. one_more ALeaf here
+counted Alias here = one_more ANode here >>> λ _. one_more AnAlias here
+counted Instance here = Done tt
 
--- how many named items an object's encodeset adds to a path
-abbrev pub named_items : Members → ℕ
-named_items ms = count_by (λ it. is_some it.name) (encodeset_items (get_member (codes "encoding") ms))
+-- a condition is not read yet
+abbrev pub condition : Spot → Walk ⊤
+condition here = wrong here NotYet
 
--- what a set, a group or a leaf says of itself, behind so many named items of its path
-abbrev pub own_events : Kind → ℕ → List ℕ → Members → List Event
-own_events kind named at ms =
-    needed (codes "name") (in_text (name_events at)) at ms
-    ++ (counted kind at
-    ++ (optional (codes "encoding") (encodeset_events named) at ms
-    ++ optional (codes "condition") (λ place d. wrong place NotYet) at ms))
+-- a node of a kind, behind so many named items of its path
+abbrev pub own : Kind → ℕ → Spot → Walk Own
+own k above here =
+    node_name here >>> named here >>> λ name.
+    counted k here >>> λ _.
+    optional (codes "encoding") (encodeset above) here >>> λ items.
+    optional (codes "condition") condition here >>> λ _.
+    Done (record { kind = k; name = name; items = unwrap_or items [] })
 
--- a child after its `_type`, whose kind decides how it is read: `children` are the events of its own children
-abbrev pub child_events : ℕ → List ℕ → Members → Option Kind → List Event → List Event
-child_events named at ms None children = []
-child_events named at ms (Some Set) children = own_events Set named at ms ++ children
-child_events named at ms (Some Group) children = own_events Group named at ms ++ children
-child_events named at ms (Some Leaf) children = own_events Leaf named at ms ++ children
-child_events named at ms (Some Alias) children = wrong at NotYet
-child_events named at ms (Some Instance) children = []
+-- ---- nodes below nodes
 
--- the kinds that stand below a child
-abbrev pub kinds_below : Option Kind → List Kind
-kinds_below None = []
-kinds_below (Some kind) = kinds_in kind
+-- what is handed down to the elements of `children`: the kind of their owner, and how many named items stand on its path
+pub record Above : Type 0 where
+  pub owner : Kind
+  pub named : ℕ
 
-abbrev mutual
-  -- an element of `children`, one of these kinds, behind so many named items of its path
-  pub node_events : List Kind → ℕ → List ℕ → Data → List Event
-  node_events kinds named at (object ms) =
-      typed (λ s. is_some (kind_named kinds s)) at ms
-      ++ child_events named at ms (kind_among kinds (object ms)) (children_events (kinds_below (kind_among kinds (object ms))) (named + named_items ms) at ms)
-  node_events kinds named at d = wrong at WrongShape
+-- the nodes that were found, without what was passed over
+abbrev pub nodes_of : List (Option Node) → Nodes
+nodes_of [] = no_nodes
+nodes_of (None ∷ found) = nodes_of found
+nodes_of (Some n ∷ found) = more n (nodes_of found)
 
-  -- the member `children` of an object, if it is there
-  pub children_events : List Kind → ℕ → List ℕ → Members → List Event
-  children_events kinds named at no_members = []
-  children_events kinds named at (member key d ms) = match_ordering (slice_cmp nat_cmp (codes "children") key) (children_events kinds named at ms) (list_events kinds named (under at (codes "children")) d) (children_events kinds named at ms)
+-- a node of a kind: what it says of itself, and its children
+abbrev pub node_of : Kind → ℕ → Spot → Inside Above (Option Node) → Walk Node
+node_of k above here inside =
+    own k above here >>> λ o.
+    inside.optional_parts (record { owner = k; named = above + named_in o.items }) (codes "children") >>> λ found.
+    Done (node o (nodes_of found))
 
-  -- an array of nodes; null is as good as absent
-  pub list_events : List Kind → ℕ → List ℕ → Data → List Event
-  list_events kinds named at null = []
-  list_events kinds named at (array ds) = nodes_events kinds named at 0 ds
-  list_events kinds named at d = wrong at WrongShape
+-- an element of `children` by its kind: an alias is not read yet, and an instance is passed over
+abbrev pub child_of : ℕ → Spot → Inside Above (Option Node) → Kind → Walk (Option Node)
+child_of above here inside Set = node_of Set above here inside >>> λ n. Done (Some n)
+child_of above here inside Group = node_of Group above here inside >>> λ n. Done (Some n)
+child_of above here inside Leaf = node_of Leaf above here inside >>> λ n. Done (Some n)
+child_of above here inside Alias = wrong here NotYet
+child_of above here inside Instance = Done None
 
-  pub nodes_events : List Kind → ℕ → List ℕ → ℕ → Items → List Event
-  nodes_events kinds named at i no_items = []
-  nodes_events kinds named at i (item d ds) = node_events kinds named (element at i) d ++ nodes_events kinds named at (i + 1) ds
+-- an element of `children`, of one of the kinds that may stand there
+abbrev pub child : Reader Above (Option Node)
+child above here inside = kind (kind_named (kinds_in above.owner)) here >>> child_of above.named here inside
 
 -- ---- the document
 
--- a set has the chosen name
-abbrev pub has_name : List ℕ → Option (List ℕ) → Bool
-has_name isa None = false
-has_name isa (Some text) = bytes_eq text isa
+-- one of those before was chosen
+abbrev pub chosen_in : List (Option Node) → Option Node
+chosen_in [] = None
+chosen_in (None ∷ found) = chosen_in found
+chosen_in (Some n ∷ found) = Some n
 
-abbrev pub is_chosen : List ℕ → Data → Bool
-is_chosen isa d = has_name isa (text_at (codes "name") d)
-
--- the name of a set: no second one is the chosen name
-abbrev pub set_name_events : List ℕ → Bool → List ℕ → List ℕ → List Event
-set_name_events isa found at text = unless (is_name text) at BadName ++ unless (not (found && bytes_eq text isa)) at Doubled
+-- whether a set's name is the chosen one, which no second set may have
+abbrev pub is_chosen : List ℕ → List (Option Node) → Spot → Walk Bool
+is_chosen isa before here =
+    needed (codes "name") here >>> λ place.
+    text place >>> λ s.
+    unless (is_name s) place BadName >>> λ _.
+    unless (not (is_some (chosen_in before) && bytes_eq s isa)) place Doubled >>> λ _.
+    Done (bytes_eq s isa)
 
 -- a set of the chosen name is read on; any other is passed over, and its name takes no number
-abbrev pub set_parts : List ℕ → Members → Bool → List Event
-set_parts at ms false = []
-set_parts at ms true = own_events Set 0 at ms ++ children_events (kinds_in Set) (named_items ms) at ms
+abbrev pub set_of : Spot → Bool → Walk (Option Node)
+set_of here false = Done None
+set_of here true = node_of Set 0 here (inside_of child here) >>> λ n. Done (Some n)
 
-abbrev pub set_events : List ℕ → Bool → List ℕ → Data → List Event
-set_events isa found at d = in_object (λ at ms.
-    typed (λ s. is_some (kind_named (Set ∷ []) s)) at ms
-    ++ (needed (codes "name") (in_text (set_name_events isa found)) at ms
-    ++ set_parts at ms (is_chosen isa d))) at d
+-- an element of `instructions`, behind those before it
+abbrev pub set : List ℕ → List (Option Node) → Spot → Walk (Option Node)
+set isa before here =
+    kind (kind_named (Set ∷ [])) here >>> λ _.
+    is_chosen isa before here >>>
+    set_of here
 
--- the elements in order, each knowing whether a chosen set stood before it; a fault of the array where none has the chosen name
-abbrev pub sets_events : List ℕ → List ℕ → ℕ → Bool → Items → List Event
-sets_events isa at i found no_items = unless found at NoSet
-sets_events isa at i found (item d ds) = set_events isa found (element at i) d ++ sets_events isa at (i + 1) (found || is_chosen isa d) ds
-
--- the events of an Instructions document, of which the set of that name is chosen
-abbrev pub instructions_events : List ℕ → Data → List Event
-instructions_events isa d = in_object (λ at ms. needed (codes "instructions") (in_array (λ place ds. sets_events isa place 0 false ds)) at ms) [] d
+-- the document, of which the set of that name is chosen
+abbrev pub instructions : List ℕ → Spot → Walk Node
+instructions isa here =
+    an_object here >>> λ _.
+    needed (codes "instructions") here >>> λ list.
+    elements list >>> each (set isa) list.at [] >>> λ found.
+    needs (chosen_in found) list NoSet

@@ -2,3 +2,7 @@
 //! Definitions alone, in `specs/`, and laws about them, in `proofs/`. The profile is this project's own, after Arm's
 //! machine-readable architecture (AARCHMRS); `docs/PROFILE.md` states it.
 #![tactic(auto)]
+
+mod laws;
+
+pub use laws::{fields_are_visible, labels_tell_leaves, merged_is_exact};

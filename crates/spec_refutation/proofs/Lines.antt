@@ -6,9 +6,9 @@ use Rattle.std.specs.List.{AllByRecursion}
 use Rattle.std.proofs.lemmas.Bool.{both_ways}
 use Rattle.std.proofs.lemmas.List.{append_assoc}
 use Rattle.spec_refutation.specs.Derivation.{Step}
-use Rattle.spec_refutation.specs.Text.{spaced_literals, spaced_numbers, first_line, clause_line, step_line}
+use Rattle.spec_refutation.specs.Text.{begins_with_digit, spaced_literals, spaced_numbers, first_line, clause_line, step_line}
 use Rattle.spec_refutation.specs.Reading.{AreCounts, IsLiteral, IsHint, IsClause, IsStep}
-use Rattle.spec_refutation.proofs.Numbers.{begins_with_digit, same_number, begins-decimal}
+use Rattle.spec_refutation.proofs.Numbers.{same_number, begins-decimal}
 use Rattle.spec_refutation.proofs.Runs.{NoItem, same_run}
 
 -- where a number ends

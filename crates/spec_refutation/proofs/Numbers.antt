@@ -8,11 +8,7 @@ use Rattle.std.proofs.lemmas.Bool.Decides.{nat_tests}
 use Rattle.std.proofs.lemmas.Str.Parse.{digit_from_value}
 use Rattle.std.proofs.lemmas.Fmt.{decimal_is_IsNumeral, decimal_digit, decimal_step, decimal_nonempty, first_decimal}
 use Rattle.std.proofs.lemmas.List.{get_or_append_left}
-
--- Whether these bytes begin with a digit, so that a number which stands before them goes on in them.
-abbrev pub begins_with_digit : List ℕ → Bool
-begins_with_digit [] = false
-begins_with_digit (b ∷ bs) = is_ascii_digit b
+use Rattle.spec_refutation.specs.Text.{begins_with_digit}
 
 -- the number that the digits at the front write after those of n, and the bytes after them
 abbrev number_from : ℕ → List ℕ → ℕ × List ℕ

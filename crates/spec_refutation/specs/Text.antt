@@ -1,6 +1,7 @@
 -- The text of a log: one line each, ended by a line feed, with single spaces, numbers in decimal
 -- without leading zeros, and `-` before a negative literal.
-use Rattle.std.specs.Prelude.{ℕ, ℤ, List, [], ◌∷◌, ◌++◌, length, flat_map, codes, decimal}
+use Rattle.std.specs.Prelude.{ℕ, ℤ, Bool, false, List, [], ◌∷◌, ◌++◌, length, flat_map, codes, decimal}
+use Rattle.std.specs.Char.{is_ascii_digit}
 use Rattle.std.specs.Fmt.{signed_decimal}
 use Rattle.spec_refutation.specs.Derivation.{Step}
 
@@ -31,3 +32,8 @@ abbrev pub log_text : ℕ → List (List ℤ) → List Step → List ℕ
 log_text vars clauses steps =
     first_line vars (length clauses) (length steps)
     ++ (flat_map clause_line clauses ++ flat_map step_line steps)
+
+-- Whether these bytes begin with a digit, so that a number which stands before them goes on in them.
+abbrev pub begins_with_digit : List ℕ → Bool
+begins_with_digit [] = false
+begins_with_digit (b ∷ bs) = is_ascii_digit b

@@ -1,21 +1,26 @@
 -- What the statuses say, put together: an answer is the outcome's, and a run without faults gives the outcome.
-use Rattle.std.proofs.Common.{◌≡◌, ℕ, Bool, true, false, cond, List, [], ◌∷◌, length, arith, Option, Some, None, IfSome, IsSomeAnd, Ok, Err, inl, inr, refl, sym, ap, ◌∙◌, subst}
-use Rattle.std.specs.Io.KnownBytes.{Appends, Keeps}
+use Rattle.std.proofs.Common.{◌≡◌, ◌⊎◌, ℕ, ◌≤◌, List, [], ◌++◌, length, take, drop, arith, Option, Some, None, IfSome, IsSomeAnd, Ok, Err, inl, inr, refl, sym, ap, ◌∙◌, subst, append_assoc, length-append, length-take}
+use Rattle.std.specs.Io.KnownBytes.{Consumes, Keeps}
 use Rattle.std.proofs.KnownBytes.{Appends-nil, Appends-kept}
+use Rattle.std.proofs.Math.Seq.{take-append_seam}
+use Rattle.std.proofs.lemmas.List.{take-append-drop}
 use Rattle.spec_io.specs.Faults.{Rose}
-use Rattle.spec_io.specs.Documents.{Document as Named, document_of}
-use Rattle.std.specs.Prelude.{nat_lt}
-use Rattle.spec_instructions.specs.Tree.{Own}
-use Rattle.spec_lines.specs.Listing.{rest_in}
-use Rattle.spec_command.specs.Verb.{Verb, ListWords, Leaf}
-use Rattle.spec_command.specs.Command.{Command, command}
-use Rattle.spec_run.specs.Request.{insns_of, isa_of, label_of}
-use Rattle.spec_run.specs.Outcome.{End, Done, Ragged, Usage, Document, Question, ReadFault, WriteFault, Limit, NoMemory, Insns, Input, Outcome, of_document, opened, answered, after_opening, of_command, outcome, stream_end, stream_limit, stream_outcome}
-use Rattle.spec_run.specs.Scene.{Scene, Reading, Writing, TookPrefix}
-use Rattle.spec_run.specs.Streamed.{Streamed, Listed}
-use Rattle.spec_run.specs.Shown.{Shown, ShownWhole, sought}
-use Rattle.spec_run.specs.Answers.{IsEarly, Follows, Misused, DocumentDecides, CommandDecides, Unfetched, OutOfMemory}
-use Rattle.spec_run.specs.Exact.{GivesOutcome, AnswersAreExact, RunsComplete, FaultsComeLate, PrefixesGoOut}
+use Rattle.spec_io.specs.Documents.{Document as Named}
+use Rattle.spec_io.specs.States.{Reading, Writing}
+use Rattle.spec_command.specs.Commands.{Request}
+use Rattle.spec_command.specs.Request.{request}
+use Rattle.spec_run.specs.End.{End, Done, Ragged, Usage, Document, Question, ReadFault, WriteFault, Limit, NoMemory, Insns, Input, IsEarly}
+use Rattle.spec_run.specs.Opening.{OpeningError, NotRead, TooLong, Refused, end_by}
+use Rattle.spec_run.specs.Work.{Outcome, Work, Once, Reads, Over, outcome_of}
+use Rattle.spec_run.specs.Commands.{opened, work_of}
+use Rattle.spec_run.specs.Outcome.{after_opening, of_request, outcome}
+use Rattle.spec_run.specs.Scene.{Scene, Took, TookPrefix, TookShort}
+use Rattle.spec_run.specs.Ran.{Told, Whole, Broke, SourceBroke, Ran}
+use Rattle.spec_run.specs.Fits.{IsFit, IsProgress}
+use Rattle.spec_run.specs.Opens.{Gives, Fails}
+use Rattle.spec_run.specs.Answers.{Untouched, WorkDecides, OutOfMemory, Means, Misused, Asked, Says}
+use Rattle.spec_run.specs.Exact.{GivesOutcome, IsAnswer, IsLate, IsCut, AnswersAreExact, RunsComplete, FaultsComeLate, PrefixesGoOut}
+use Rattle.spec_run.proofs.Fits.{works_fit}
 
 told : {A : Type 0} (o : Option A) (x : A) (P : A → Type 0) → o ≡ Some x → IfSome o P → P x
 told {A = A} o x P e h = let Q : Option A → Type 0 = λ o. IfSome o P in subst Q e h
@@ -23,146 +28,207 @@ told {A = A} o x P e h = let Q : Option A → Type 0 = λ o. IfSome o P in subst
 told_and : {A : Type 0} (o : Option A) (x : A) (P : A → Type 0) → o ≡ Some x → IsSomeAnd o P → P x
 told_and {A = A} o x P e h = let Q : Option A → Type 0 = λ o. IsSomeAnd o P in subst Q e h
 
--- the outcome where the document decides
-refused : (s : Scene) (docs : List Named) (bytes : List ℕ) (end : End) (c : Command) → command s.words ≡ Ok c → opened c docs ≡ Err end → outcome s.words docs bytes ≡ record { end = end; out = [] }
-refused s docs bytes end c says cause = ap (λ r. of_command r docs bytes) says ∙ ap (λ r. after_opening c r bytes) cause
+-- ---- any work, over a source that tells its bytes
 
--- nothing went out
-nothing : (s : Scene) (docs : List Named) (bytes : List ℕ) (end : End) → outcome s.words docs bytes ≡ record { end = end; out = [] } → Keeps s.out.taken s.out_after.taken → GivesOutcome s docs bytes end
-nothing s docs bytes end e kept = subst (λ o. (o.end ≡ end) × Appends s.out.taken s.out_after.taken o.out) (sym e) (refl, Appends-kept s.out.taken s.out.taken s.out_after.taken [] (Appends-nil s.out.taken) kept)
+module _ (input input_after : Reading) (out out_after : Writing) (bytes : List ℕ) (l : input.left ≡ Some bytes) where
+  outcome_told : (work : Work) (P : Outcome → Type 0) → Told input input_after out out_after work P → P (outcome_of work bytes)
+  outcome_told (Once o) P h = h
+  outcome_told (Reads over) P h = let same : bytes ≡ h.0 = told input.left bytes (λ all. all ≡ h.0) l h.1 in subst (λ all. P (over.whole all)) (sym same) h.2
 
-by_document : (s : Scene) (docs : List Named) (bytes : List ℕ) (end : End) → s.documents ≡ Some docs → DocumentDecides s end → GivesOutcome s docs bytes end
-by_document s docs bytes end d h = nothing s docs bytes end (refused s docs bytes end h.asked h.says (told s.documents docs _ d h.cause)) h.untouched.out
+  -- what was read is a first part of the stream
+  consumed : (a b : Option (List ℕ)) (read : List ℕ) → a ≡ Some bytes → Consumes a b read → (rest : List ℕ) × (bytes ≡ read ++ rest)
+  consumed None b read e h = absurd cc
+  consumed (Some x) None read e h = absurd h
+  consumed (Some x) (Some y) read e h = let same : x ≡ bytes = cc in (y, sym same ∙ h)
 
-misused : (s : Scene) (docs : List Named) (bytes : List ℕ) (place : ℕ) → Misused s place → GivesOutcome s docs bytes (Usage place)
-misused s docs bytes place h = nothing s docs bytes (Usage place) (ap (λ r. of_command r docs bytes) h.cause) h.untouched.out
+  -- where some bytes are a front of all that goes out
+  front_taken : (part rest whole : List ℕ) → whole ≡ part ++ rest → Took out out_after part → TookPrefix out out_after whole
+  front_taken part rest whole e took =
+      let n : length part ≤ length whole = omega (arith, length-append part rest, ap length e) in
+      (length part, n, subst (Took out out_after) (sym (ap (take (length part)) e ∙ take-append_seam part rest)) took)
 
--- what a command makes of the paths is what is answered, for each status that is an answer
-abbrev IsAnswered : Scene → Outcome → End → Type 0
-IsAnswered s o end = (o.end ≡ end) × Appends s.out.taken s.out_after.taken o.out
+  read_cut : (over : Over) → IsProgress over → Broke input input_after out out_after over → TookPrefix out out_after (over.whole bytes).out
+  read_cut over fits h =
+      let more = consumed input.left input_after.left h.read l h.was_read in
+      let few : length (take h.front h.read) ≤ over.limit = let le : h.front ≤ over.limit = h.within in rw (length-take h.front h.read) (omega arith) in
+      let whole : bytes ≡ take h.front h.read ++ (drop h.front h.read ++ more.0) = more.1 ∙ ap (λ xs. xs ++ more.0) (sym (take-append-drop h.front h.read)) ∙ append_assoc (take h.front h.read) _ _ in
+      let front = fits.front (take h.front h.read) (drop h.front h.read ++ more.0) few in
+      front_taken (over.partial (take h.front h.read)) front.0 (over.whole bytes).out (ap (λ all. (over.whole all).out) whole ∙ front.1) h.lines
 
-followed : (s : Scene) (bytes : List ℕ) (end : End) (verb : Verb) (label : List ℕ) (paths : List (List Own)) → s.input.left ≡ Some bytes
-    → (Streamed paths s.input s.input_after s.out s.out_after end → Listed paths s.input s.input_after s.out s.out_after end)
-    → (Shown paths label s.out s.out_after end → ShownWhole paths label s.out s.out_after end)
-    → Follows verb label paths s.input s.input_after s.out s.out_after end → IsAnswered s (answered verb label paths bytes) end
-followed s bytes end ListWords label paths l listed shown h = told s.input.left bytes _ l (listed h)
-followed s bytes end Leaf label paths l listed shown h = shown h.1
+  source_cut : (work : Work) → IsFit work → SourceBroke input input_after out out_after work → TookPrefix out out_after (outcome_of work bytes).out
+  source_cut (Once o) fits h = absurd h
+  source_cut (Reads over) fits h = read_cut over fits h
 
--- the outcome where the document is accepted
-accepted : (s : Scene) (docs : List Named) (bytes : List ℕ) (end : End) → s.documents ≡ Some docs → (h : CommandDecides s end) → outcome s.words docs bytes ≡ answered h.asked.verb (label_of h.asked) h.paths bytes
-accepted s docs bytes end d h = ap (λ r. of_command r docs bytes) h.says ∙ ap (λ r. after_opening h.asked r bytes) (told s.documents docs _ d h.accepted)
+  short_is_prefix : (all : List ℕ) → TookShort out out_after all → TookPrefix out out_after all
+  short_is_prefix all h = (h.0, omega (arith, h.1), h.2)
 
-by_command : (s : Scene) (docs : List Named) (bytes : List ℕ) (end : End) → s.documents ≡ Some docs → s.input.left ≡ Some bytes → (h : CommandDecides s end)
-    → (Streamed h.paths s.input s.input_after s.out s.out_after end → Listed h.paths s.input s.input_after s.out s.out_after end)
-    → (Shown h.paths (label_of h.asked) s.out s.out_after end → ShownWhole h.paths (label_of h.asked) s.out s.out_after end)
-    → GivesOutcome s docs bytes end
-by_command s docs bytes end d l h listed shown =
-    subst (λ o. IsAnswered s o end) (sym (accepted s docs bytes end d h)) (followed s bytes end h.asked.verb (label_of h.asked) h.paths l listed shown h.follows)
+  -- a fault of the source or of the sink comes where no question decides
+  late_read : (work : Work) → IsFit work → SourceBroke input input_after out out_after work → IsEarly (outcome_of work bytes).end → ⊥
+  late_read (Once o) fits h early = h
+  late_read (Reads over) fits h early = fits.late bytes early
+
+  some_out : (all : List ℕ) → all ≡ [] → TookShort out out_after all → ⊥
+  some_out all none h = let n : length all ≡ 0 = ap length none in absurd (omega (arith, h.1, n))
+
+  late_write : (work : Work) → IsFit work → TookShort out out_after (outcome_of work bytes).out → IsEarly (outcome_of work bytes).end → ⊥
+  late_write (Once o) fits h early = some_out o.out (fits early) h
+  late_write (Reads over) fits h early = fits.late bytes early
+
+-- a reader's run never ends as one that does before the stream
+pub never_early : (input input_after : Reading) (out out_after : Writing) (over : Over) (end : End) → IsProgress over → Ran input input_after out out_after (Reads over) end → IsEarly end → ⊥
+never_early input input_after out out_after over Done fits h early = early
+never_early input input_after out out_after over (Ragged rest) fits h early = early
+never_early input input_after out out_after over (Usage place) fits h early = h.meaning
+never_early input input_after out out_after over (Document which fault) fits h early = h.meaning
+never_early input input_after out out_after over (Question fault) fits h early = fits.late h.meaning.0 (subst IsEarly (sym h.meaning.2.0) early)
+never_early input input_after out out_after over (ReadFault Insns) fits h early = h.meaning
+never_early input input_after out out_after over (ReadFault Input) fits h early = early
+never_early input input_after out out_after over WriteFault fits h early = early
+never_early input input_after out out_after over (Limit Insns) fits h early = h.meaning
+never_early input input_after out out_after over (Limit Input) fits h early = early
+never_early input input_after out out_after over NoMemory fits h early = early
+
+-- where the source broke its count rose
+source_rose : (input input_after : Reading) (out out_after : Writing) (work : Work) → SourceBroke input input_after out out_after work → Rose input.faults input_after.faults
+source_rose input input_after out out_after (Once o) h = absurd h
+source_rose input input_after out out_after (Reads over) h = h.cause
+
+-- ---- a run
+
+-- the words are refused, or they ask for something
+said : (words : List (List ℕ)) (s : Scene) (end : End) → Says words s end → ((place : ℕ) × (end ≡ Usage place) × Misused words s place) ⊎ Asked words s end
+said words s (Usage place) h = inl (place, refl, h)
+said words s Done h = inr h
+said words s (Ragged rest) h = inr h
+said words s (Document which fault) h = inr h
+said words s (Question fault) h = inr h
+said words s (ReadFault which) h = inr h
+said words s WriteFault h = inr h
+said words s (Limit which) h = inr h
+said words s NoMemory h = inr h
+
+module _ (words : List (List ℕ)) (s : Scene) (docs : List Named) (bytes : List ℕ) where
+  -- nothing went out
+  nothing : (end : End) → outcome words docs bytes ≡ record { end = end; out = [] } → Keeps s.out.taken s.out_after.taken → GivesOutcome words s docs bytes end
+  nothing end e kept = subst (λ o. (o.end ≡ end) × Took s.out s.out_after o.out) (sym e) (refl, Appends-kept s.out.taken s.out.taken s.out_after.taken [] (Appends-nil s.out.taken) kept)
+
+  misused : (end : End) (place : ℕ) → end ≡ Usage place → Misused words s place → GivesOutcome words s docs bytes end
+  misused end place is h = subst (GivesOutcome words s docs bytes) (sym is) (nothing (Usage place) (ap (λ r. of_request r docs bytes) h.cause) h.untouched.out)
+
+  -- ---- the words ask for something
+
+  module _ (d : s.shelf.documents ≡ Some docs) (l : s.input.left ≡ Some bytes) (asked : Request) (says : request words ≡ Ok asked) where
+    -- the outcome where it is not opened
+    refused : (error : OpeningError) → opened asked docs ≡ Err error → outcome words docs bytes ≡ record { end = end_by error; out = [] }
+    refused error cause = ap (λ r. of_request r docs bytes) says ∙ ap (λ r. after_opening asked r bytes) cause
+
+    by_opening : (error : OpeningError) → Gives (opened asked) s.shelf s.shelf_after (Err error) → Untouched s → GivesOutcome words s docs bytes (end_by error)
+    by_opening error opens still = nothing (end_by error) (refused error (told s.shelf.documents docs _ d opens)) still.out
+
+    -- a document that is not there, where the shelf's count did not rise
+    unfetched : Fails (opened asked) s.shelf s.shelf_after (NotRead Insns) → ¬ Rose s.shelf.faults s.shelf_after.faults → (outcome words docs bytes).end ≡ ReadFault Insns
+    unfetched cause still = elim cause.1 [
+      | inl rose ↦ absurd (still rose)
+      | inr none ↦ ap (λ o. o.end) (refused (NotRead Insns) (told_and s.shelf.documents docs (λ docs. opened asked docs ≡ Err (NotRead Insns)) d none))
+    ]
+
+    -- the outcome where it is opened
+    accepted : (end : End) (h : WorkDecides s asked end) → outcome words docs bytes ≡ outcome_of (work_of asked h.found) bytes
+    accepted end h = ap (λ r. of_request r docs bytes) says ∙ ap (λ r. after_opening asked r bytes) (told s.shelf.documents docs _ d h.gives)
+
+    -- what holds of the work's outcome, where it was told, holds of the run's
+    by_work : (end : End) (P : Outcome → Type 0) (h : WorkDecides s asked end) → Told s.input s.input_after s.out s.out_after (work_of asked h.found) P → P (outcome words docs bytes)
+    by_work end P h holds = subst P (sym (accepted end h)) (outcome_told s.input s.input_after s.out s.out_after bytes l (work_of asked h.found) P holds)
+
+    whole : (end : End) (h : WorkDecides s asked end) → Whole s.input s.input_after s.out s.out_after (work_of asked h.found) end → GivesOutcome words s docs bytes end
+    whole end h went = by_work end (λ o. (o.end ≡ end) × Took s.out s.out_after o.out) h went
+
+    exact : (end : End) → Means s asked end → IsAnswer end → GivesOutcome words s docs bytes end
+    exact Done h a = whole Done h h.ran.meaning.0
+    exact (Ragged rest) h a = whole (Ragged rest) h h.ran.meaning.0
+    exact (Usage place) h a = absurd h
+    exact (Document which fault) h a = by_opening (Refused which fault) h.cause.1 h.untouched
+    exact (Question fault) h a = whole (Question fault) h h.ran.meaning
+    exact (ReadFault which) h a = absurd a
+    exact WriteFault h a = absurd a
+    exact (Limit Insns) h a = by_opening (TooLong Insns) h.cause.1 h.untouched
+    exact (Limit Input) h a = whole (Limit Input) h h.ran.meaning
+    exact NoMemory h a = absurd a
+
+    complete : (end : End) → Means s asked end → ¬ Rose s.shelf.faults s.shelf_after.faults → ¬ Rose s.input.faults s.input_after.faults → ¬ Rose s.out.faults s.out_after.faults → ((outcome words docs bytes).end ≡ end) ⊎ (end ≡ NoMemory)
+    complete NoMemory h shelf input out = inr refl
+    complete (ReadFault Insns) h shelf input out = inl (unfetched h.cause shelf)
+    complete (ReadFault Input) h shelf input out = absurd (input (source_rose s.input s.input_after s.out s.out_after (work_of asked h.found) h.ran.meaning))
+    complete WriteFault h shelf input out = absurd (out h.ran.meaning.0)
+    complete Done h shelf input out = inl (exact Done h tt).0
+    complete (Ragged rest) h shelf input out = inl (exact (Ragged rest) h tt).0
+    complete (Usage place) h shelf input out = absurd h
+    complete (Document which fault) h shelf input out = inl (exact (Document which fault) h tt).0
+    complete (Question fault) h shelf input out = inl (exact (Question fault) h tt).0
+    complete (Limit which) h shelf input out = inl (exact (Limit which) h tt).0
+
+    late : (end : End) → Means s asked end → IsLate end → IsEarly (outcome words docs bytes).end → ⊥
+    late (ReadFault Input) h is early =
+        late_read s.input s.input_after s.out s.out_after bytes l (work_of asked h.found) (works_fit asked h.found) h.ran.meaning (subst (λ o. IsEarly o.end) (accepted (ReadFault Input) h) early)
+    late WriteFault h is early =
+        let work : Work = work_of asked h.found in
+        let short = outcome_told s.input s.input_after s.out s.out_after bytes l work (λ o. TookShort s.out s.out_after o.out) h.ran.meaning.1 in
+        late_write s.input s.input_after s.out s.out_after bytes l work (works_fit asked h.found) short (subst (λ o. IsEarly o.end) (accepted WriteFault h) early)
+    late (ReadFault Insns) h is early = is
+    late Done h is early = is
+    late (Ragged rest) h is early = is
+    late (Usage place) h is early = is
+    late (Document which fault) h is early = is
+    late (Question fault) h is early = is
+    late (Limit which) h is early = is
+    late NoMemory h is early = is
+
+    -- ---- a prefix went out
+
+    abbrev Prefix : Outcome → Type 0
+    Prefix o = TookPrefix s.out s.out_after o.out
+
+    cut_short : OutOfMemory s asked → Prefix (outcome words docs bytes)
+    cut_short h = elim h.reached [
+      | inl untouched ↦ (0, omega arith, Appends-kept s.out.taken s.out.taken s.out_after.taken [] (Appends-nil s.out.taken) untouched.out)
+      | inr c ↦ by_work NoMemory Prefix c c.ran.meaning
+    ]
+
+    cut : (end : End) → Means s asked end → IsCut end → Prefix (outcome words docs bytes)
+    cut (ReadFault Input) h is =
+        subst Prefix (sym (accepted (ReadFault Input) h)) (source_cut s.input s.input_after s.out s.out_after bytes l (work_of asked h.found) (works_fit asked h.found) h.ran.meaning)
+    cut WriteFault h is = short_is_prefix s.input s.input_after s.out s.out_after bytes l _ (by_work WriteFault (λ o. TookShort s.out s.out_after o.out) h h.ran.meaning.1)
+    cut NoMemory h is = cut_short h
+    cut (ReadFault Insns) h is = absurd is
+    cut Done h is = absurd is
+    cut (Ragged rest) h is = absurd is
+    cut (Usage place) h is = absurd is
+    cut (Document which fault) h is = absurd is
+    cut (Question fault) h is = absurd is
+    cut (Limit which) h is = absurd is
+
+-- ---- the laws
 
 pub answers_are_exact : AnswersAreExact
-answers_are_exact s docs bytes Done d l h a = by_command s docs bytes Done d l h (λ streamed. streamed.0) (λ shown. shown)
-answers_are_exact s docs bytes (Ragged rest) d l h a = by_command s docs bytes (Ragged rest) d l h (λ streamed. streamed.0) (λ shown. absurd shown)
-answers_are_exact s docs bytes (Usage place) d l h a = misused s docs bytes place h
-answers_are_exact s docs bytes (Document Insns fault) d l h a = by_document s docs bytes (Document Insns fault) d h
-answers_are_exact s docs bytes (Document Input fault) d l h a = absurd h
-answers_are_exact s docs bytes (Question fault) d l h a = by_command s docs bytes (Question fault) d l h (λ streamed. absurd streamed) (λ shown. shown)
-answers_are_exact s docs bytes (ReadFault which) d l h a = absurd a
-answers_are_exact s docs bytes WriteFault d l h a = absurd a
-answers_are_exact s docs bytes (Limit Insns) d l h a = by_document s docs bytes (Limit Insns) d h
-answers_are_exact s docs bytes (Limit Input) d l h a = by_command s docs bytes (Limit Input) d l h (λ streamed. streamed) (λ shown. absurd shown)
-answers_are_exact s docs bytes NoMemory d l h a = absurd a
-
--- a document that is not there, where the shelf's count did not rise
-unfetched : (s : Scene) (docs : List Named) (bytes : List ℕ) → s.documents ≡ Some docs → Unfetched s → ¬ Rose s.shelf_faults s.shelf_faults_after → (outcome s.words docs bytes).end ≡ ReadFault Insns
-unfetched s docs bytes d h still = elim h.cause [
-  | inl rose ↦ absurd (still rose)
-  | inr none ↦
-      ap (λ o. o.end) (refused s docs bytes (ReadFault Insns) h.asked h.says (ap (of_document (isa_of h.asked)) (told_and s.documents docs (λ docs. document_of (insns_of h.asked) docs ≡ None) d none)))
+answers_are_exact words s docs bytes end d l h a = elim (said words s end h) [
+  | inl m ↦ misused words s docs bytes end m.0 m.1 m.2
+  | inr c ↦ exact words s docs bytes d l c.asked c.says end c.means a
 ]
 
--- a source or a sink that broke is one whose count rose
-module _ (label : List ℕ) (paths : List (List Own)) (input input_after : Reading) (out out_after : Writing) where
-  abbrev Ends : Verb → End → Type 0
-  Ends verb end = Follows verb label paths input input_after out out_after end
-
-  source_broke : (verb : Verb) → Ends verb (ReadFault Input) → Rose input.faults input_after.faults
-  source_broke ListWords h = h.cause
-  source_broke Leaf h = absurd h.1
-
-  sink_broke : (verb : Verb) → Ends verb WriteFault → Rose out.faults out_after.faults
-  sink_broke ListWords h = h.cause
-  sink_broke Leaf h = h.1.1
-
-  -- the stream is looked at, or a leaf was found
-  late_stream : (b : Bool) (bytes whole part : List ℕ) → IsEarly (cond {A = Outcome} b (record { end = Limit Input; out = part }) (record { end = stream_end bytes; out = whole })).end → ⊥
-  late_stream true bytes whole part h = h
-  late_stream false [] whole part h = h
-  late_stream false (b ∷ bytes) whole part h = h
-
-  late_list : (bytes : List ℕ) → IsEarly (stream_outcome paths bytes).end → ⊥
-  late_list bytes h = late_stream (nat_lt stream_limit (length bytes)) (rest_in bytes) _ _ h
-
-  late_write : (verb : Verb) (bytes : List ℕ) → Ends verb WriteFault → IsEarly (answered verb label paths bytes).end → ⊥
-  late_write ListWords bytes h early = late_list bytes early
-  late_write Leaf bytes h early = let leaf : (sought paths label out out_after).end ≡ Done = h.1.0 in subst IsEarly leaf early
-
-  late_read : (verb : Verb) (bytes : List ℕ) → Ends verb (ReadFault Input) → IsEarly (answered verb label paths bytes).end → ⊥
-  late_read ListWords bytes h early = late_list bytes early
-  late_read Leaf bytes h early = h.1
-
-  -- a prefix went out
-  cut_write : (verb : Verb) (bytes : List ℕ) → input.left ≡ Some bytes → Ends verb WriteFault → TookPrefix out out_after (answered verb label paths bytes).out
-  cut_write ListWords bytes l h = told input.left bytes _ l h.lines
-  cut_write Leaf bytes l h = h.1.2
-
-  cut_memory : (verb : Verb) (bytes : List ℕ) → input.left ≡ Some bytes → Ends verb NoMemory → TookPrefix out out_after (answered verb label paths bytes).out
-  cut_memory ListWords bytes l h = told input.left bytes _ l h
-  cut_memory Leaf bytes l h = h.1
+pub runs_complete : RunsComplete
+runs_complete words s docs bytes end d l h shelf input out = elim (said words s end h) [
+  | inl m ↦ inl (misused words s docs bytes end m.0 m.1 m.2).0
+  | inr c ↦ complete words s docs bytes d l c.asked c.says end c.means shelf input out
+]
 
 pub faults_come_late : FaultsComeLate
-faults_come_late s docs bytes (ReadFault Input) d l h late early = late_read (label_of h.asked) h.paths s.input s.input_after s.out s.out_after h.asked.verb bytes h.follows (subst (λ o. IsEarly o.end) (accepted s docs bytes (ReadFault Input) d h) early)
-faults_come_late s docs bytes (ReadFault Insns) d l h late early = late
-faults_come_late s docs bytes WriteFault d l h late early = late_write (label_of h.asked) h.paths s.input s.input_after s.out s.out_after h.asked.verb bytes h.follows (subst (λ o. IsEarly o.end) (accepted s docs bytes WriteFault d h) early)
-faults_come_late s docs bytes Done d l h late early = late
-faults_come_late s docs bytes (Ragged rest) d l h late early = late
-faults_come_late s docs bytes (Usage place) d l h late early = late
-faults_come_late s docs bytes (Document which fault) d l h late early = late
-faults_come_late s docs bytes (Question fault) d l h late early = late
-faults_come_late s docs bytes (Limit which) d l h late early = late
-faults_come_late s docs bytes NoMemory d l h late early = late
-
--- nothing went out
-none_out : (s : Scene) (bytes : List ℕ) → Keeps s.out.taken s.out_after.taken → TookPrefix s.out s.out_after bytes
-none_out s bytes kept = (0, omega arith, Appends-kept s.out.taken s.out.taken s.out_after.taken [] (Appends-nil s.out.taken) kept)
-
-cut_short : (s : Scene) (docs : List Named) (bytes : List ℕ) → s.documents ≡ Some docs → s.input.left ≡ Some bytes → OutOfMemory s → TookPrefix s.out s.out_after (outcome s.words docs bytes).out
-cut_short s docs bytes d l h = elim h.reached [
-  | inl untouched ↦ none_out s _ untouched.out
-  | inr c ↦
-      subst (λ o. TookPrefix s.out s.out_after o.out) (sym (accepted s docs bytes NoMemory d c)) (cut_memory (label_of c.asked) c.paths s.input s.input_after s.out s.out_after c.asked.verb bytes l c.follows)
+faults_come_late words s docs bytes end d l h is early = elim (said words s end h) [
+  | inl m ↦ (let never : IsLate (Usage m.0) = subst IsLate m.1 is in absurd never)
+  | inr c ↦ late words s docs bytes d l c.asked c.says end c.means is early
 ]
 
 pub prefixes_go_out : PrefixesGoOut
-prefixes_go_out s docs bytes WriteFault d l h cut = subst (λ o. TookPrefix s.out s.out_after o.out) (sym (accepted s docs bytes WriteFault d h)) (cut_write (label_of h.asked) h.paths s.input s.input_after s.out s.out_after h.asked.verb bytes l h.follows)
-prefixes_go_out s docs bytes NoMemory d l h cut = cut_short s docs bytes d l h
-prefixes_go_out s docs bytes Done d l h cut = absurd cut
-prefixes_go_out s docs bytes (Ragged rest) d l h cut = absurd cut
-prefixes_go_out s docs bytes (Usage place) d l h cut = absurd cut
-prefixes_go_out s docs bytes (Document which fault) d l h cut = absurd cut
-prefixes_go_out s docs bytes (Question fault) d l h cut = absurd cut
-prefixes_go_out s docs bytes (ReadFault which) d l h cut = absurd cut
-prefixes_go_out s docs bytes (Limit which) d l h cut = absurd cut
-
-pub runs_complete : RunsComplete
-runs_complete s docs bytes Done d l h shelf input out = inl (answers_are_exact s docs bytes Done d l h tt).0
-runs_complete s docs bytes NoMemory d l h shelf input out = inr refl
-runs_complete s docs bytes (Ragged rest) d l h shelf input out = inl (answers_are_exact s docs bytes (Ragged rest) d l h tt).0
-runs_complete s docs bytes (Usage place) d l h shelf input out = inl (answers_are_exact s docs bytes (Usage place) d l h tt).0
-runs_complete s docs bytes (Document Insns fault) d l h shelf input out = inl (answers_are_exact s docs bytes (Document Insns fault) d l h tt).0
-runs_complete s docs bytes (Document Input fault) d l h shelf input out = absurd h
-runs_complete s docs bytes (Question fault) d l h shelf input out = inl (answers_are_exact s docs bytes (Question fault) d l h tt).0
-runs_complete s docs bytes (ReadFault Insns) d l h shelf input out = inl (unfetched s docs bytes d h shelf)
-runs_complete s docs bytes (ReadFault Input) d l h shelf input out = absurd (input (source_broke (label_of h.asked) h.paths s.input s.input_after s.out s.out_after h.asked.verb h.follows))
-runs_complete s docs bytes WriteFault d l h shelf input out = absurd (out (sink_broke (label_of h.asked) h.paths s.input s.input_after s.out s.out_after h.asked.verb h.follows))
-runs_complete s docs bytes (Limit Insns) d l h shelf input out = inl (answers_are_exact s docs bytes (Limit Insns) d l h tt).0
-runs_complete s docs bytes (Limit Input) d l h shelf input out = inl (answers_are_exact s docs bytes (Limit Input) d l h tt).0
+prefixes_go_out words s docs bytes end d l h is = elim (said words s end h) [
+  | inl m ↦ (let never : IsCut (Usage m.0) = subst IsCut m.1 is in absurd never)
+  | inr c ↦ cut words s docs bytes d l c.asked c.says end c.means is
+]

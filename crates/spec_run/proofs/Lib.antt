@@ -1,2 +1,3 @@
+pub mod Fits
 pub mod Exact
 pub mod Worked

@@ -1,17 +1,20 @@
 -- Worked values: command lines, and documents that are refused.
-use Rattle.std.specs.Prelude.{◌≡◌, [], ◌∷◌, Err, codes, refl, ℕ, List, ◌++◌}
+use Rattle.std.specs.Prelude.{◌≡◌, [], ◌∷◌, Err, Result, codes, refl, ℕ, List, ◌++◌}
 use Rattle.std.specs.Fmt.{digits}
 use Rattle.serde_json.specs.Read.{read}
 use Rattle.serde_json.proofs.OnLiterals.{serde_json_on_literals}
-use Rattle.spec_command.specs.Verb.{Verb, ListWords, Leaf}
 use Rattle.spec_walk.specs.Event.{Missing, UnlistedKind}
-use Rattle.spec_run.specs.Outcome.{Outcome, outcome, after_opening, of_value, Done, Ragged, Usage, Document, Question, NoLeaf, ReadFault, WriteFault, Limit, Insns, Input, Json, Schema, message}
+use Rattle.spec_command.specs.Commands.{AskList, AskLeaf}
+use Rattle.spec_run.specs.End.{Done, Ragged, Usage, Document, Question, NoLeaf, ReadFault, WriteFault, Limit, Insns, Input, Json, Schema, message}
+use Rattle.spec_run.specs.Opening.{Opened, OpeningError, Refused, of_value}
+use Rattle.spec_run.specs.Work.{Outcome}
+use Rattle.spec_run.specs.Outcome.{outcome, after_opening}
 
-empty_object : of_value (codes "A64") (read (codes "{}")) ≡ Err (Document Insns (Schema (record { at = []; why = Missing (codes "instructions") })))
+empty_object : of_value (codes "A64") (read (codes "{}")) ≡ Err (Refused Insns (Schema (record { at = []; why = Missing (codes "instructions") })))
 unfolding digits serde_json_on_literals
 empty_object = refl
 
-not_json : of_value (codes "A64") (read (codes "{")) ≡ Err (Document Insns Json)
+not_json : of_value (codes "A64") (read (codes "{")) ≡ Err (Refused Insns Json)
 unfolding digits serde_json_on_literals
 not_json = refl
 
@@ -35,12 +38,12 @@ leaf_text : message (Question NoLeaf) ≡ codes "leaf\n"
 leaf_text = refl
 
 -- a command, and the document that it names
-abbrev answer_to : Verb → List ℕ → List ℕ → List ℕ → Outcome
-answer_to verb label document bytes = after_opening (record { verb = verb; pairs = (codes "label", label) ∷ [] }) (of_value (codes "A64") (read document)) bytes
+abbrev opened_by : List ℕ → Result Opened OpeningError
+opened_by document = of_value (codes "A64") (read document)
 
 -- a set without leaves, and a stream of one word
 abbrev of_stream : List ℕ → Outcome
-of_stream bytes = answer_to ListWords [] (codes "{\"instructions\":[{\"_type\":\"Instruction.InstructionSet\",\"name\":\"A64\"}]}") bytes
+of_stream bytes = after_opening (AskList (record { insns = []; isa = [] })) (opened_by (codes "{\"instructions\":[{\"_type\":\"Instruction.InstructionSet\",\"name\":\"A64\"}]}")) bytes
 
 one_word : of_stream (0 ∷ 0 ∷ 0 ∷ 0 ∷ []) ≡ record { end = Done; out = codes "00000000 00000000 none\n" }
 unfolding digits serde_json_on_literals
@@ -68,7 +71,7 @@ json_text = refl
 
 -- two leaves of one name
 abbrev of_label : List ℕ → Outcome
-of_label label = answer_to Leaf label (codes "{\"instructions\":[{\"_type\":\"Instruction.InstructionSet\",\"name\":\"A64\",\"children\":[{\"_type\":\"Instruction.Instruction\",\"name\":\"DUP\"},{\"_type\":\"Instruction.Instruction\",\"name\":\"DUP\"}]}]}") []
+of_label label = after_opening (AskLeaf (record { insns = []; isa = [] }) label) (opened_by (codes "{\"instructions\":[{\"_type\":\"Instruction.InstructionSet\",\"name\":\"A64\",\"children\":[{\"_type\":\"Instruction.Instruction\",\"name\":\"DUP\"},{\"_type\":\"Instruction.Instruction\",\"name\":\"DUP\"}]}]}")) []
 
 no_such_leaf : of_label (codes "DUP") ≡ record { end = Question NoLeaf; out = [] }
 unfolding digits serde_json_on_literals

@@ -3,9 +3,10 @@ use Rattle.std.specs.Prelude.{◌≡◌, ◌⊎◌, ℕ, List, Some, ⊤}
 use Rattle.std.specs.Io.KnownBytes.{Appends}
 use Rattle.spec_io.specs.Faults.{Rose}
 use Rattle.spec_io.specs.Documents.{Document as Named}
-use Rattle.spec_run.specs.Outcome.{End, ReadFault, WriteFault, NoMemory, Input, outcome}
+use Rattle.spec_run.specs.End.{End, ReadFault, WriteFault, NoMemory, Input, IsEarly}
+use Rattle.spec_run.specs.Outcome.{outcome}
 use Rattle.spec_run.specs.Scene.{Scene, TookPrefix}
-use Rattle.spec_run.specs.Answers.{Means, IsEarly}
+use Rattle.spec_run.specs.Answers.{Says}
 
 -- a status that is neither a fault of the outside nor want of memory
 abbrev pub IsAnswer : End → Type 0
@@ -15,17 +16,17 @@ IsAnswer NoMemory = ⊥
 IsAnswer end = ⊤
 
 -- the status and the bytes on `out` are the outcome's
-abbrev pub GivesOutcome : Scene → List Named → List ℕ → End → Type 0
-GivesOutcome s docs bytes end = ((outcome s.words docs bytes).end ≡ end) × Appends s.out.taken s.out_after.taken (outcome s.words docs bytes).out
+abbrev pub GivesOutcome : List (List ℕ) → Scene → List Named → List ℕ → End → Type 0
+GivesOutcome words s docs bytes end = ((outcome words docs bytes).end ≡ end) × Appends s.out.taken s.out_after.taken (outcome words docs bytes).out
 
 -- every answer is the outcome's
 abbrev pub AnswersAreExact : Type 0
-AnswersAreExact = (s : Scene) (docs : List Named) (bytes : List ℕ) (end : End) → s.documents ≡ Some docs → s.input.left ≡ Some bytes → Means end s → IsAnswer end → GivesOutcome s docs bytes end
+AnswersAreExact = (words : List (List ℕ)) (s : Scene) (docs : List Named) (bytes : List ℕ) (end : End) → s.shelf.documents ≡ Some docs → s.input.left ≡ Some bytes → Says words s end → IsAnswer end → GivesOutcome words s docs bytes end
 
 -- where no count of shelf, source or sink rose, the run ends as the outcome does, or memory ran out
 abbrev pub RunsComplete : Type 0
-RunsComplete = (s : Scene) (docs : List Named) (bytes : List ℕ) (end : End) → s.documents ≡ Some docs → s.input.left ≡ Some bytes → Means end s
-    → ¬ Rose s.shelf_faults s.shelf_faults_after → ¬ Rose s.input.faults s.input_after.faults → ¬ Rose s.out.faults s.out_after.faults → ((outcome s.words docs bytes).end ≡ end) ⊎ (end ≡ NoMemory)
+RunsComplete = (words : List (List ℕ)) (s : Scene) (docs : List Named) (bytes : List ℕ) (end : End) → s.shelf.documents ≡ Some docs → s.input.left ≡ Some bytes → Says words s end
+    → ¬ Rose s.shelf.faults s.shelf_after.faults → ¬ Rose s.input.faults s.input_after.faults → ¬ Rose s.out.faults s.out_after.faults → ((outcome words docs bytes).end ≡ end) ⊎ (end ≡ NoMemory)
 
 -- a fault of the stream or of the sink comes only where nothing before the command's output decides
 abbrev pub IsLate : End → Type 0
@@ -34,13 +35,14 @@ IsLate WriteFault = ⊤
 IsLate end = ⊥
 
 abbrev pub FaultsComeLate : Type 0
-FaultsComeLate = (s : Scene) (docs : List Named) (bytes : List ℕ) (end : End) → s.documents ≡ Some docs → s.input.left ≡ Some bytes → Means end s → IsLate end → ¬ IsEarly (outcome s.words docs bytes).end
+FaultsComeLate = (words : List (List ℕ)) (s : Scene) (docs : List Named) (bytes : List ℕ) (end : End) → s.shelf.documents ≡ Some docs → s.input.left ≡ Some bytes → Says words s end → IsLate end → ¬ IsEarly (outcome words docs bytes).end
 
--- after a failed write, and when memory ran out, a prefix of the outcome's bytes went out
+-- after a failed read of the stream, after a failed write, and when memory ran out, a prefix of the outcome's bytes went out
 abbrev pub IsCut : End → Type 0
+IsCut (ReadFault Input) = ⊤
 IsCut WriteFault = ⊤
 IsCut NoMemory = ⊤
 IsCut end = ⊥
 
 abbrev pub PrefixesGoOut : Type 0
-PrefixesGoOut = (s : Scene) (docs : List Named) (bytes : List ℕ) (end : End) → s.documents ≡ Some docs → s.input.left ≡ Some bytes → Means end s → IsCut end → TookPrefix s.out s.out_after (outcome s.words docs bytes).out
+PrefixesGoOut = (words : List (List ℕ)) (s : Scene) (docs : List Named) (bytes : List ℕ) (end : End) → s.shelf.documents ≡ Some docs → s.input.left ≡ Some bytes → Says words s end → IsCut end → TookPrefix s.out s.out_after (outcome words docs bytes).out

@@ -1,7 +1,11 @@
-pub mod Request
+pub mod End
+pub mod Opening
+pub mod Opens
+pub mod Work
+pub mod Commands
 pub mod Outcome
 pub mod Scene
-pub mod Streamed
-pub mod Shown
+pub mod Ran
 pub mod Answers
+pub mod Fits
 pub mod Exact

@@ -1,4 +1,5 @@
-//! What a run of the program means: its command, its result, and what each status says of the outside.
+//! What a run of the program means: what each command opens and does, the result, and what each status says of the
+//! outside.
 //! Definitions alone, in `specs/`, and laws about them, in `proofs/`.
 #![tactic(auto)]
 
@@ -17,13 +18,13 @@ pub fn runs_complete()
 {}
 
 /// A law on what statuses say: over a shelf and a source that tell their contents, a fault of the stream or of the sink
-/// for lines comes only where neither the words nor the document nor the label decide.
+/// for lines comes only where nothing that comes before the stream decides.
 pub fn faults_come_late()
     ensures { FaultsComeLate }
 {}
 
 /// A law on what statuses say: over a shelf and a source that tell their contents, a prefix of the outcome's bytes went
-/// out after a failed write, and when memory ran out.
+/// out after a failed read of the stream, after a failed write, and when memory ran out.
 pub fn prefixes_go_out()
     ensures { PrefixesGoOut }
 {}

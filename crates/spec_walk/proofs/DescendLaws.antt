@@ -1,5 +1,5 @@
 -- Laws of walks that go down: what is asked for inside is what stands there.
-use Rattle.std.proofs.Common.{◌≡◌, ◌∙◌, sym, ap, refl, ℕ, List, [], ◌∷◌, ◌++◌, length, Option, Some, None, unwrap_or, option_and_then, option_map}
+use Rattle.std.proofs.Common.{◌≡◌, ◌∙◌, sym, ap, refl, ℕ, List, [], ◌∷◌, ◌++◌, length, Option, Some, unwrap_or, option_and_then, option_map}
 use Rattle.std.proofs.Common.{Ordering, Less, Equal, Greater}
 use Rattle.std.specs.Ordering.{nat_cmp, match_ordering}
 use Rattle.std.specs.Cmp.Lexicographic.{slice_cmp}
@@ -8,8 +8,8 @@ use Rattle.serde_json.specs.Find.{get_member}
 use Rattle.spec_walk.specs.Pointer.{under, element}
 use Rattle.spec_walk.specs.Event.{Missing}
 use Rattle.spec_walk.specs.Walk.{Walk, Done, Stop, Meet, ◌>>>◌}
-use Rattle.spec_walk.specs.Spot.{Spot, spot, below, wrong, needs, needed, elements, not_null, if_there, optional, each}
-use Rattle.spec_walk.specs.Descend.{Reader, Inside, descend, part, parts, optional_parts, listed, listed_or_null, several, at_spot, elements_at}
+use Rattle.spec_walk.specs.Spot.{Spot, spot, below, wrong, needs, not_null, if_there, each}
+use Rattle.spec_walk.specs.Descend.{Reader, Inside, descend, part, parts, optional_parts, listed, listed_or_null, several, at_spot, elements_at, IsInside}
 
 -- walks that go on alike
 pub then-same : {A B : Type 0} (w : Walk A) (f g : A → Walk B) → ((x : A) → f x ≡ g x) → w >>> f ≡ w >>> g
@@ -78,12 +78,6 @@ optional_parts-member read e key at (member k d ms) = go (slice_cmp nat_cmp key 
     go Less h = h
     go Equal h = listed_or_null-elements read e key at d
     go Greater h = h
-
--- a reader's answer on a value: what it asks for inside are members of the value and the elements of members
-pub record IsInside {E A : Type 0} (read : Reader E A) (here : Spot) (inside : Inside E A) : Type 0 where
-  pub part : (e : E) (key : List ℕ) → inside.part e key ≡ needed key here >>> at_spot read e
-  pub parts : (e : E) (key : List ℕ) → inside.parts e key ≡ needed key here >>> elements_at read e
-  pub optional_parts : (e : E) (key : List ℕ) → inside.optional_parts e key ≡ optional key (elements_at read e) here >>> λ found. Done (unwrap_or found [])
 
 pub record Descends {E A : Type 0} (read : Reader E A) (e : E) (here : Spot) : Type 0 where
   pub inside : Inside E A

@@ -1,3 +1,4 @@
 pub mod Worked
 pub mod WalkLaws
 pub mod DescendLaws
+pub mod EveryLaws

@@ -1,6 +1,6 @@
 -- Laws of walks in a row.
-use Rattle.std.proofs.Common.{◌≡◌, ◌∙◌, sym, ap, refl, List, [], ◌∷◌, ◌++◌, Result, Ok, Err}
-use Rattle.spec_walk.specs.Event.{Event, Fault}
+use Rattle.std.proofs.Common.{◌≡◌, ◌∙◌, ap, refl, Result, Ok, Err}
+use Rattle.spec_walk.specs.Event.{Fault}
 use Rattle.spec_walk.specs.Limits.{Counts, after, ◌>>=◌, judged}
 use Rattle.spec_walk.specs.Walk.{Walk, Done, Stop, Meet, ◌>>>◌, events, gives}
 

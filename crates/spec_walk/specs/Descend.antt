@@ -1,12 +1,12 @@
 -- Walks over a value and the values inside it, each read like its owner.
-use Rattle.std.specs.Prelude.{ℕ, List, [], ◌∷◌, ◌++◌, length}
+use Rattle.std.specs.Prelude.{◌≡◌, ℕ, List, [], ◌∷◌, ◌++◌, length, unwrap_or}
 use Rattle.std.specs.Ordering.{nat_cmp, match_ordering}
 use Rattle.std.specs.Cmp.Lexicographic.{slice_cmp}
 use Rattle.serde_json.specs.Data.{Data, null, array, object, Items, no_items, item, Members, no_members, member}
 use Rattle.spec_walk.specs.Pointer.{under, element}
 use Rattle.spec_walk.specs.Event.{Missing, WrongShape}
 use Rattle.spec_walk.specs.Walk.{Walk, Done, ◌>>>◌}
-use Rattle.spec_walk.specs.Spot.{Spot, spot, wrong, elements, each}
+use Rattle.spec_walk.specs.Spot.{Spot, spot, wrong, needed, optional, elements, each}
 
 -- what a reader may ask for inside an object, by the member's name, with something handed down: a member that has to be there, the elements of one,
 -- and those of one that may be absent or null
@@ -63,3 +63,17 @@ at_spot read e here = descend read e here.at here.value
 
 abbrev pub elements_at : {E A : Type 0} → Reader E A → E → Spot → Walk (List A)
 elements_at read e here = elements here >>> each (λ _. at_spot read e) here.at []
+
+-- what stands inside a spot: members of its value, and the elements of members
+abbrev pub inside_of : {E A : Type 0} → Reader E A → Spot → Inside E A
+inside_of read here = record {
+  part = λ e key. needed key here >>> at_spot read e;
+  parts = λ e key. needed key here >>> elements_at read e;
+  optional_parts = λ e key. optional key (elements_at read e) here >>> λ found. Done (unwrap_or found []);
+}
+
+-- a reader that goes down is handed exactly that
+pub record IsInside {E A : Type 0} (read : Reader E A) (here : Spot) (inside : Inside E A) : Type 0 where
+  pub part : (e : E) (key : List ℕ) → inside.part e key ≡ (inside_of read here).part e key
+  pub parts : (e : E) (key : List ℕ) → inside.parts e key ≡ (inside_of read here).parts e key
+  pub optional_parts : (e : E) (key : List ℕ) → inside.optional_parts e key ≡ (inside_of read here).optional_parts e key

@@ -1,7 +1,6 @@
 pub mod Pointer
 pub mod Event
 pub mod Limits
-pub mod Members
 pub mod Walk
 pub mod Spot
 pub mod Descend

@@ -1,10 +1,9 @@
 -- The words that a walk over a JSON document is written in. A spot is a value with its place in the document.
-use Rattle.std.specs.Prelude.{ℕ, List, Bool, true, false, Option, Some, None, if◌then◌else◌, codes, bytes_eq, ◌+◌, option_map, option_and_then, length, [], ◌∷◌, ◌++◌, ⊤}
+use Rattle.std.specs.Prelude.{ℕ, List, Bool, true, false, Option, Some, None, if◌then◌else◌, codes, bytes_eq, nat_lt, option_map, option_and_then, length, [], ◌∷◌, ◌++◌, ⊤}
 use Rattle.serde_json.specs.Data.{Data, null, boolean, number, string, array, object, Items, no_items, item}
-use Rattle.serde_json.specs.Find.{get, as_str, as_array}
+use Rattle.serde_json.specs.Find.{get, as_str, as_array, as_number, as_u64}
 use Rattle.spec_walk.specs.Pointer.{under, element}
-use Rattle.spec_walk.specs.Event.{Why, Missing, UnlistedKind, WrongShape, Fault, Event, Name, OneMore, Thing}
-use Rattle.spec_walk.specs.Members.{whole_number}
+use Rattle.spec_walk.specs.Event.{Why, Missing, UnlistedKind, WrongShape, Name, OneMore, Thing}
 use Rattle.spec_walk.specs.Walk.{Walk, Done, Stop, Meet, ◌>>>◌}
 
 pub record Spot : Type 0 where
@@ -14,10 +13,16 @@ pub record Spot : Type 0 where
 abbrev pub spot : List ℕ → Data → Spot
 spot at d = record { at = at; value = d }
 
--- a fault of the spot
+-- a whole document stands at the empty Pointer
+abbrev pub root : Data → Spot
+root d = spot [] d
+
+-- ---- faults of a spot
+
 abbrev pub wrong : {A : Type 0} → Spot → Why → Walk A
 wrong here why = Stop (record { at = here.at; why = why })
 
+-- a fault unless the test holds
 abbrev pub unless : Bool → Spot → Why → Walk ⊤
 unless test here why = if test then Done tt else wrong here why
 
@@ -26,7 +31,8 @@ abbrev pub needs : {A : Type 0} → Option A → Spot → Why → Walk A
 needs (Some x) here why = Done x
 needs None here why = wrong here why
 
--- an object, an array, a text, and a whole number below a limit
+-- ---- an object, an array, a text, and a whole number below a limit
+
 abbrev pub is_object : Data → Bool
 is_object (object ms) = true
 is_object d = false
@@ -40,17 +46,23 @@ elements here = needs (as_array here.value) here WrongShape
 abbrev pub text : Spot → Walk (List ℕ)
 text here = needs (as_str here.value) here WrongShape
 
+-- a whole number, as serde_json keeps one (RFC 8259 leaves its range open)
+abbrev pub whole_number : ℕ → Data → Option ℕ
+whole_number limit d = option_and_then (λ n. if nat_lt n limit then Some n else None) (option_and_then as_u64 (as_number d))
+
 abbrev pub number_below : ℕ → Spot → Walk ℕ
 number_below limit here = needs (whole_number limit here.value) here WrongShape
 
--- a member that has to be there, null being a value like another
+-- ---- members
+
+-- the member of that name, as a spot of its own
 abbrev pub below : List ℕ → Spot → Data → Spot
 below key here d = spot (under here.at key) d
 
+-- a member that has to be there, null being a value like another
 abbrev pub needed : List ℕ → Spot → Walk Spot
 needed key here = needs (option_map (below key here) (get key here.value)) here (Missing key)
 
--- a member that may be absent or null, which means the same
 abbrev pub not_null : Data → Option Data
 not_null null = None
 not_null (boolean b) = Some (boolean b)
@@ -59,6 +71,7 @@ not_null (string s) = Some (string s)
 not_null (array ds) = Some (array ds)
 not_null (object ms) = Some (object ms)
 
+-- a member that may be absent or null, which means the same
 abbrev pub member_at : List ℕ → Spot → Option Spot
 member_at key here = option_map (below key here) (option_and_then not_null (get key here.value))
 
@@ -68,6 +81,8 @@ if_there (Some found) read = read found >>> λ x. Done (Some x)
 
 abbrev pub optional : {A : Type 0} → List ℕ → (Spot → Walk A) → Spot → Walk (Option A)
 optional key read here = if_there (member_at key here) read
+
+-- ---- kinds
 
 -- the text of the member `_type` of an object
 abbrev pub kind_text : Spot → Walk (List ℕ)
@@ -81,12 +96,15 @@ kind meaning here = kind_text here >>> λ s. needs (meaning s) here UnlistedKind
 abbrev pub exactly : List ℕ → Spot → Walk ⊤
 exactly wanted here = kind_text here >>> λ s. unless (bytes_eq wanted s) here UnlistedKind
 
--- a text that takes a number, and one more of a thing that is counted; both are of the object
+-- ---- what is met: a text that takes a number, and one more of a thing that is counted; both are of the object
+
 abbrev pub named : Spot → List ℕ → Walk (List ℕ)
 named here s = Meet (Name here.at s) (Done s)
 
 abbrev pub one_more : Thing → Spot → Walk ⊤
 one_more thing here = Meet (OneMore thing here.at) (Done tt)
+
+-- ---- arrays
 
 -- the elements of an array, each read with what those before it gave
 abbrev pub each : {A : Type 0} → (List A → Spot → Walk A) → List ℕ → List A → Items → Walk (List A)

@@ -1,5 +1,5 @@
 -- A walk over a document: the events that are met on the way, and behind them a value or the fault that ends the walk.
-use Rattle.std.specs.Prelude.{ℕ, List, [], ◌∷◌, Option, Some, None, Result, Ok, Err}
+use Rattle.std.specs.Prelude.{List, [], ◌∷◌, Option, Some, None, Result, Ok, Err}
 use Rattle.spec_walk.specs.Event.{Fault, Event, Wrong}
 use Rattle.spec_walk.specs.Limits.{Counts, after, ◌>>=◌}
 

@@ -1,7 +1,6 @@
 use Rattle.std.proofs.Common.{◌≡◌, ◌<◌, ◌++◌, false, length}
 use Rattle.std.specs.List.{AllByRecursion}
-use Rattle.spec_refutation.specs.Text.{spaced_numbers}
-use Rattle.spec_refutation.proofs.Numbers.{begins_with_digit}
+use Rattle.spec_refutation.specs.Text.{begins_with_digit, spaced_numbers}
 use Rattle.spec_refutation.specs.Reading.{IsHint}
 use Rattle.feat_proof.proofs.lines.hints.Given as goal
 

@@ -1,6 +1,5 @@
 use Rattle.std.proofs.Common.{◌≡◌, ◌<◌, ◌++◌, false, length}
-use Rattle.spec_refutation.specs.Text.{spaced_literals}
-use Rattle.spec_refutation.proofs.Numbers.{begins_with_digit}
+use Rattle.spec_refutation.specs.Text.{begins_with_digit, spaced_literals}
 use Rattle.spec_refutation.specs.Reading.{IsClause}
 use Rattle.feat_proof.proofs.lines.literals.Given as goal
 

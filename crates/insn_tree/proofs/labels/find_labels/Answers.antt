@@ -1,4 +1,4 @@
-use Rattle.std.proofs.Common.{◌∙◌, sym, ap, map, get_or, cond, false, Some, None, bytes_eq, string_bytes}
+use Rattle.std.proofs.Common.{◌∙◌, sym, ap, map, get_or, cond, false, Some, None, bytes_eq}
 use Rattle.std.specs.Prelude.{find}
 use Rattle.std.specs.Option.{option_or}
 use Rattle.std.specs.List.{range_with_len}
@@ -13,7 +13,7 @@ use Rattle.insn_tree.proofs.labels.find_labels.Goals as goal
 pub loop-leaf-preserved : goal.loop-leaf-preserved
 loop-leaf-preserved c text =
     let k = c.loop-leaf.leaf in
-    let label = string_bytes c.in_ok-printed.field-0 in
+    let label = c.in_ok-printed.field-0.items in
     let is = c.in_ok-printed.ensures ∙ c.label_of-label.ensures.text
     ∙ ap (λ id. flat_label c.args.names.now id (get_or c.args.shared.now k false) k) (sym (get_or-map (λ (name : NameId). name.0) c.args.leaf_names.now k (record { 0 = 0 }))) in
     let test = has_flat_label c.args.names.now (map (λ (name : NameId). name.0) c.args.leaf_names.now) c.args.shared.now text in

@@ -1,5 +1,5 @@
 use Rattle.std.proofs.Common.{◌≡◌, ◌∙◌, sym, ap, subst, ℕ, List, length, map, All, ◌≤◌, arith}
-use Rattle.mrs_arena.specs.declared.node.Node.{Node}
+use Rattle.mrs_arena.specs.declared.node.StoredNode.{StoredNode}
 use Rattle.mrs_arena.specs.Paths.{ancestors, IsPreorder}
 use Rattle.mrs_arena.specs.Nodes.{parents_of}
 use Rattle.mrs_arena.specs.Inside.{parent_of}
@@ -9,7 +9,7 @@ use Rattle.mrs_arena.proofs.arena.Arena.path.Goals as goal
 
 pub new-requires-clause-order : goal.new-requires-clause-order
 new-requires-clause-order c =
-    subst (λ (nodes : List Node). IsPreorder (map parent_of nodes)) (sym c.deref.ensures.value)
+    subst (λ (nodes : List StoredNode). IsPreorder (map parent_of nodes)) (sym c.deref.ensures.value)
     (subst IsPreorder (parents_of-flat c.self.inside.items.items c.self.inside.nodes.items) c.self.invariant.formed.preorder)
 
 path : (c : goal.After-new) → c.new.result ≡ ancestors (parents_of c.args.self.now) c.args.n.0

@@ -1,5 +1,5 @@
 use Rattle.std.proofs.Common.{◌∙◌, sym, ap, subst, List, map}
-use Rattle.mrs_arena.specs.declared.node.Node.{Node}
+use Rattle.mrs_arena.specs.declared.node.StoredNode.{StoredNode}
 use Rattle.mrs_arena.specs.Inside.{flat_nodes, without_end, AreClosed}
 use Rattle.mrs_arena.proofs.ClosedLaws.{AreClosed-from, ended-whole, flat_nodes-ended}
 use Rattle.mrs_arena.proofs.builder.ArenaBuilder.close.Goals as goal
@@ -9,7 +9,7 @@ from_parts-requires c =
     let nodes = c.self.inside.nodes.items in
     let ended = c.fill_ends.new.nodes in
     let same = c.fill_ends.ensures.same ∙ ap (map without_end) c.deref_mut.ensures.value in
-    subst (λ (ns : List Node). AreClosed ns c.self.inside.items.items) (sym (ended-whole nodes ended c.self.inside.nodes.len same (sym c.self.inside.nodes.ok.0)))
+    subst (λ (ns : List StoredNode). AreClosed ns c.self.inside.items.items) (sym (ended-whole nodes ended c.self.inside.nodes.len same (sym c.self.inside.nodes.ok.0)))
     (AreClosed-from nodes ended c.self.inside.items.items c.self.inside.leaves c.self.inside.aliases c.self.invariant same c.fill_ends.ensures.ends)
 
 pub returns : goal.returns

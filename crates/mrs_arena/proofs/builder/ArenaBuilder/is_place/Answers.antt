@@ -1,7 +1,7 @@
 use Rattle.std.proofs.Common.{◌∙◌, sym, ap, subst, ℕ, List, Option, map, option_map, Some, ◌↔◌, arith}
 use Rattle.std.specs.Prelude.{IsTrue}
 use Rattle.std.proofs.lemmas.Bool.{eqb-true, eq-eqb}
-use Rattle.mrs_arena.specs.declared.node.Node.{Node}
+use Rattle.mrs_arena.specs.declared.node.StoredNode.{StoredNode}
 use Rattle.mrs_arena.specs.declared.node_id.NodeId.{NodeId}
 use Rattle.mrs_arena.specs.Paths.{IsPlace, IsPreorder}
 use Rattle.mrs_arena.specs.Nodes.{parents_of}
@@ -12,7 +12,7 @@ use Rattle.mrs_arena.proofs.builder.ArenaBuilder.is_place.Goals as goal
 
 pub is_on_last_path-requires-clause-order : goal.is_on_last_path-requires-clause-order
 is_on_last_path-requires-clause-order c =
-    subst (λ (nodes : List Node). IsPreorder (map parent_of nodes)) (sym c.deref.ensures.value)
+    subst (λ (nodes : List StoredNode). IsPreorder (map parent_of nodes)) (sym c.deref.ensures.value)
     (subst IsPreorder (parents_of-flat c.self.inside.items.items c.self.inside.nodes.items) c.self.invariant.formed.preorder)
 
 pub returns-in-Some : goal.returns-in-Some

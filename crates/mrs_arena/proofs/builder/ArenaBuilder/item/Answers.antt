@@ -1,5 +1,6 @@
 use Rattle.std.proofs.Common.{◌≡◌, ◌∙◌, sym, ap, subst, ◌+◌, ◌<◌, ◌-◌, ◌||◌, ◌&&◌, nat_le, List, length, false, is_some, slice_set, arith}
 use Rattle.std.proofs.lemmas.List.{length-map}
+use Rattle.spec_instructions.specs.Limits.{item_limit, named_limit}
 use Rattle.mrs_arena.specs.Views.{flat_item}
 use Rattle.mrs_arena.specs.Nodes.{last_items, with_item, is_taken}
 use Rattle.mrs_arena.specs.Limits.{is_item_refused}
@@ -22,7 +23,7 @@ last c =
 room : (c : goal.After-self-1) → lacks_room c.index.result.now (is_some c.args.it.name) ≡ false
 room c =
     let node = c.index.result.now in
-    ap (λ b. nat_le 64 (node.to - node.from) || (b && nat_le 256 node.named)) (sym c.is_some.ensures) ∙ sym c.if-lacks_room.ensures
+    ap (λ b. nat_le item_limit (node.to - node.from) || (b && nat_le named_limit node.named)) (sym c.is_some.ensures) ∙ sym c.if-lacks_room.ensures
 
 pub invariant_of-self-2 : goal.invariant_of-self-2
 invariant_of-self-2 c =

@@ -1,6 +1,6 @@
 use Rattle.std.proofs.Common.{◌≡◌, ◌∙◌, sym, ap, subst, map, string_bytes, Some, None, [], ◌∷◌, ◌++◌, length, ◌<◌, arith}
 use Rattle.std.proofs.lemmas.List.{length-map}
-use Rattle.mrs_names.specs.Texts.{place_of, AreNames}
+use Rattle.mrs_names.specs.Texts.{name_limit, place_of, AreNames}
 use Rattle.mrs_names.proofs.PlaceLaws.{inserted, AreNames-new, place_of-new, with_name-new}
 use Rattle.mrs_names.proofs.names.Names.intern.Goals as goal
 
@@ -19,11 +19,18 @@ grown c =
 counted : (c : goal.In-Ok) → c.len-number.result ≡ length c.args.self.now
 counted c = c.len-number.ensures.len ∙ sym (length-map c.self.inside.texts.keys string_bytes) ∙ ap length c.self.view_is
 
+-- and are names still
+held : (c : goal.In-Ok) → AreNames (map string_bytes c.insert.new.self.keys)
+held c =
+    let room : length c.args.self.now < name_limit = omega (arith, counted c) in
+    let before = subst AreNames c.self.view_is c.self.invariant in
+    subst AreNames (sym (grown c)) (AreNames-new c.args.text.now c.args.self.now (absent c) room before)
+
 pub invariant_of-self-2 : goal.invariant_of-self-2
-invariant_of-self-2 c =
-    let room : length c.args.self.now < 4194304 = omega (arith, counted c) in
-    let held = subst AreNames c.self.view_is c.self.invariant in
-    subst AreNames (sym (grown c)) (AreNames-new c.args.text.now c.args.self.now (absent c) room held)
+invariant_of-self-2 c = held c
+
+pub returns-clause-held : goal.returns-clause-held
+returns-clause-held c = held c
 
 pub returns-clause-place : goal.returns-clause-place
 returns-clause-place c = ap (λ names. place_of c.args.text.now names) (grown c) ∙ place_of-new c.args.text.now c.args.self.now (absent c) ∙ ap Some (sym (counted c))

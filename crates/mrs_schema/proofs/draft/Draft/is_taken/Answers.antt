@@ -1,7 +1,7 @@
 use Rattle.std.proofs.Common.{◌∙◌, sym, ap, bytes_eq}
 use Rattle.std.specs.List.{list_any}
 use Rattle.mrs_schema.specs.Drafted.{last_items}
-use Rattle.mrs_schema.specs.Items.{names_of}
+use Rattle.spec_instructions.specs.Encodeset.{names_of}
 use Rattle.mrs_schema.proofs.DraftLaws.{has_number-last, has_no_number-last}
 use Rattle.mrs_schema.proofs.draft.Draft.is_taken.Goals as goal
 

@@ -2,17 +2,18 @@ use Rattle.std.proofs.Common.{◌≡◌, ◌∙◌, sym, ap, subst, ◌+◌, ◌
 use Rattle.std.proofs.lemmas.List.{length-map}
 use Rattle.std.specs.List.{list_any}
 use Rattle.spec_walk.specs.Event.{TooMany}
-use Rattle.spec_walk.specs.Limits.{judged}
-use Rattle.spec_instructions.specs.Encodeset.{within_limits}
+use Rattle.spec_walk.specs.Walk.{gives}
+use Rattle.spec_walk.specs.Spot.{unless}
 use Rattle.mrs_arena.specs.Flat.{FlatNode}
 use Rattle.mrs_arena.specs.Formed.{AreNodes}
 use Rattle.mrs_arena.specs.Views.{flat_item}
-use Rattle.mrs_arena.specs.Placed.{item_of, placed, AreHeld, text_of}
+use Rattle.mrs_arena.specs.Placed.{item_of, placed_node, AreHeld, text_of}
 use Rattle.mrs_arena.proofs.HeldLaws.{AreHeld-item}
 use Rattle.mrs_schema.specs.Drafted.{Drafted, counts, last_items, last_named, with_items}
-use Rattle.mrs_schema.specs.Items.{names_of}
-use Rattle.mrs_schema.specs.Pointers.{pointer}
-use Rattle.mrs_schema.proofs.DraftLaws.{Passes-fault, placed-with_item, item_taken, item_refused, IsHeld-number, free_number, length-number}
+use Rattle.spec_instructions.specs.Encodeset.{within_limits, names_of}
+use Rattle.mrs_walk.specs.Here.{spot_of}
+use Rattle.mrs_walk.proofs.AnswerLaws.{Fails-made}
+use Rattle.mrs_schema.proofs.DraftLaws.{placed-with_item, item_taken, item_refused, IsHeld-number, free_number, length-number}
 use Rattle.mrs_schema.proofs.draft.Draft.item.Goals as goal
 
 pub item-requires-clause-free : goal.item-requires-clause-free
@@ -32,25 +33,27 @@ invariant_of-self c =
 
 pub returns-in-Ok-clause-steps : goal.returns-in-Ok-clause-steps
 returns-in-Ok-clause-steps c =
-    let at = pointer c.args.place.now in
+    let here = spot_of c.args.here.now in
     let it = flat_item c.args.it in
     let names = c.self.inside.names in
     let nodes = c.self.inside.nodes in
     let named = length (option_to_list c.args.it.name) in
-    let some : 0 < length nodes = omega (arith, c.requires.some, ap (λ d. length d.nodes) c.self.view_is, length-map nodes (placed names)) in
+    let some : 0 < length nodes = omega (arith, c.requires.some, ap (λ d. length d.nodes) c.self.view_is, length-map nodes (placed_node names)) in
     let put = c.in-Ok.ensures.put in
-    let formed = subst AreNodes put c.in-Ok.ensures.formed in (
-      ap (λ d. judged (within_limits (length (last_items d.nodes)) (last_named d.nodes + named) at) (counts d)) (sym c.self.view_is)
-          ∙ item_taken at names nodes it named (length-number c.args.it.name) some c.in-Ok.ensures.room formed
-          ∙ ap (λ ns. Ok (counts (record { names = names; nodes = map (placed names) ns }))) (sym put),
-      ap (map (placed names)) put ∙ placed-with_item names it nodes ∙ ap (λ d. with_items (item_of d.names it ∷ []) d.nodes) c.self.view_is,
-    )
+    let formed = subst AreNodes put c.in-Ok.ensures.formed in record {
+      value = tt;
+      walked =
+          ap (λ d. gives (unless (within_limits (length (last_items d.nodes)) (last_named d.nodes + named)) here TooMany) (counts d)) (sym c.self.view_is)
+          ∙ item_taken here names nodes it named (length-number c.args.it.name) some c.in-Ok.ensures.room formed
+          ∙ ap (λ ns. Ok (tt, counts (record { names = names; nodes = map (placed_node names) ns }))) (sym put);
+      stands = ap (map (placed_node names)) put ∙ placed-with_item names it nodes ∙ ap (λ d. with_items (item_of d.names it ∷ []) d.nodes) c.self.view_is;
+    }
 
 pub returns-clause-steps : goal.returns-clause-steps
 returns-clause-steps c =
-    let at = pointer c.args.place.now in
+    let here = spot_of c.args.here.now in
     let named = length (option_to_list c.args.it.name) in
-    Passes-fault c.fault_at.result (record { at = at; why = TooMany }) _ _ _ c.fault_at.ensures (
-    ap (λ d. judged (within_limits (length (last_items d.nodes)) (last_named d.nodes + named) at) (counts d)) (sym c.self.view_is)
-    ∙ item_refused at c.self.inside.names c.self.inside.nodes (flat_item c.args.it) named (length-number c.args.it.name) (c.in-Err-TooMany.ensures.too_many (ap Err c.in-Err-TooMany.field-0-is))
+    Fails-made c.fault.result here TooMany _ c.fault.ensures (
+    ap (λ d. gives (unless (within_limits (length (last_items d.nodes)) (last_named d.nodes + named)) here TooMany) (counts d)) (sym c.self.view_is)
+    ∙ item_refused here c.self.inside.names c.self.inside.nodes (flat_item c.args.it) named (length-number c.args.it.name) (c.in-Err-TooMany.ensures.too_many (ap Err c.in-Err-TooMany.field-0-is))
     )

@@ -1,39 +1,42 @@
-use Rattle.std.proofs.Common.{◌∙◌, sym, ap, map, [], ◌∷◌, Ok, Err}
-use Rattle.spec_walk.specs.Event.{Name, TooMany}
-use Rattle.spec_walk.specs.Limits.{judged}
+use Rattle.std.proofs.Common.{◌∙◌, sym, ap, map, Ok, Err}
+use Rattle.spec_walk.specs.Event.{TooMany}
 use Rattle.mrs_names.proofs.PlaceLaws.{place_of-lt}
-use Rattle.mrs_arena.specs.Placed.{placed}
+use Rattle.mrs_arena.specs.Placed.{placed_node}
 use Rattle.mrs_arena.proofs.HeldLaws.{placed-extended}
 use Rattle.mrs_schema.specs.Drafted.{counts}
-use Rattle.mrs_schema.specs.Pointers.{pointer}
+use Rattle.spec_walk.specs.Spot.{named}
+use Rattle.spec_walk.specs.Walk.{gives}
+use Rattle.mrs_walk.specs.Here.{spot_of}
+use Rattle.mrs_walk.proofs.AnswerLaws.{Fails-made}
 use Rattle.mrs_schema.proofs.TakenLaws.{name_taken, name_refused, text_of-place}
-use Rattle.mrs_schema.proofs.DraftLaws.{Passes-fault}
 use Rattle.mrs_schema.proofs.draft.Draft.name.Goals as goal
 
 pub returns-in-Ok-clause-steps : goal.returns-in-Ok-clause-steps
 returns-in-Ok-clause-steps c =
-    let at = pointer c.args.place.now in
+    let here = spot_of c.args.here.now in
     let text = c.args.text.now in
     let old = c.self.inside.names in
     let new = c.intern.new.self in
     let nodes = c.self.inside.nodes in
-    let place = c.in-Ok.ensures.place in (
-      ap (λ d. judged (Name at text ∷ []) (counts d)) (sym c.self.view_is)
-          ∙ name_taken at text old (map (placed old) nodes) c.in-Ok.ensures.room
-          ∙ ap (λ names. Ok (counts (record { names = names; nodes = map (placed old) nodes }))) (sym c.in-Ok.ensures.names)
-          ∙ ap (λ ns. Ok (counts (record { names = new; nodes = ns }))) (sym (placed-extended old new nodes c.in-Ok.ensures.kept c.self.invariant)),
-      (place_of-lt text new c.in-Ok.id.0 place, text_of-place text new c.in-Ok.id.0 place),
-    )
+    let place = c.in-Ok.ensures.place in record {
+      value = text;
+      walked =
+          ap (λ d. gives (named here text) (counts d)) (sym c.self.view_is)
+          ∙ name_taken here text old (map (placed_node old) nodes) c.in-Ok.ensures.room
+          ∙ ap (λ names. Ok (text, counts (record { names = names; nodes = map (placed_node old) nodes }))) (sym c.in-Ok.ensures.names)
+          ∙ ap (λ ns. Ok (text, counts (record { names = new; nodes = ns }))) (sym (placed-extended old new nodes c.in-Ok.ensures.kept c.self.invariant));
+      stands = (place_of-lt text new c.in-Ok.id.0 place, text_of-place text new c.in-Ok.id.0 place);
+    }
 
 pub returns-in-Ok-clause-nodes : goal.returns-in-Ok-clause-nodes
 returns-in-Ok-clause-nodes c = placed-extended c.self.inside.names c.intern.new.self c.self.inside.nodes c.in-Ok.ensures.kept c.self.invariant ∙ ap (λ d. d.nodes) c.self.view_is
 
 pub returns-clause-steps : goal.returns-clause-steps
 returns-clause-steps c =
-    let at = pointer c.args.place.now in
+    let here = spot_of c.args.here.now in
     let text = c.args.text.now in
     let names = c.self.inside.names in
-    Passes-fault c.fault_at.result (record { at = at; why = TooMany }) _ _ _ c.fault_at.ensures (
-    ap (λ d. judged (Name at text ∷ []) (counts d)) (sym c.self.view_is)
-    ∙ name_refused at text names (map (placed names) c.self.inside.nodes) (c.in-Err-Full.ensures.full (ap Err c.in-Err-Full.field-0-is))
+    Fails-made c.fault.result here TooMany _ c.fault.ensures (
+    ap (λ d. gives (named here text) (counts d)) (sym c.self.view_is)
+    ∙ name_refused here text names (map (placed_node names) c.self.inside.nodes) (c.in-Err-Full.ensures.full (ap Err c.in-Err-Full.field-0-is))
     )

@@ -1,17 +1,17 @@
 use Rattle.std.proofs.Common.{◌∙◌, sym, ap, subst, ℕ, ◌<◌, List, [], ◌∷◌, ◌++◌, length, map, option_map, Option, Ok, Err}
 use Rattle.std.proofs.lemmas.List.{map_push, length-map}
 use Rattle.spec_walk.specs.Event.{TooMany}
-use Rattle.spec_walk.specs.Limits.{judged}
+use Rattle.spec_walk.specs.Walk.{gives}
 use Rattle.spec_instructions.specs.Walk.{counted}
 use Rattle.mrs_arena.specs.Flat.{FlatNode}
 use Rattle.mrs_arena.specs.Nodes.{new_node}
 use Rattle.mrs_arena.specs.Paths.{IsPlace}
-use Rattle.mrs_arena.specs.Placed.{kind_of, placed, AreHeld}
+use Rattle.mrs_arena.specs.Placed.{kind_of, placed_node, AreHeld}
 use Rattle.mrs_arena.proofs.HeldLaws.{parents-placed, AreHeld-node}
 use Rattle.mrs_schema.specs.Drafted.{Drafted, counts, parents}
-use Rattle.mrs_schema.specs.Pointers.{pointer}
+use Rattle.mrs_walk.specs.Here.{spot_of}
+use Rattle.mrs_walk.proofs.AnswerLaws.{Fails-made}
 use Rattle.mrs_schema.proofs.CountLaws.{node_taken, node_refused}
-use Rattle.mrs_schema.proofs.DraftLaws.{Passes-fault}
 use Rattle.mrs_schema.proofs.draft.Draft.node.Goals as goal
 
 pub node-requires : goal.node-requires
@@ -29,25 +29,27 @@ invariant_of-self c =
 
 pub returns-in-Ok-clause-steps : goal.returns-in-Ok-clause-steps
 returns-in-Ok-clause-steps c =
-    let at = pointer c.args.place.now in
+    let here = spot_of c.args.here.now in
     let kind = c.args.kind in
     let parent = option_map (λ p. p.0) c.args.parent in
     let names = c.self.inside.names in
-    let nodes = c.self.inside.nodes in (
-      ap (λ d. judged (counted (kind_of kind) at) (counts d)) (sym c.self.view_is)
-          ∙ node_taken at names nodes kind c.args.name.0 parent c.in-Ok.ensures.room
-          ∙ ap (λ ns. Ok (counts (record { names = names; nodes = map (placed names) ns }))) (sym c.in-Ok.ensures.put),
-      (
-        c.in-Ok.ensures.number ∙ sym (length-map nodes (placed names)) ∙ ap (λ d. length d.nodes) c.self.view_is,
-        ap (map (placed names)) c.in-Ok.ensures.put ∙ map_push (placed names) nodes (new_node kind c.args.name.0 parent)
-            ∙ ap (λ d. d.nodes ++ placed d.names (new_node kind c.args.name.0 parent) ∷ []) c.self.view_is,
-      ),
-    )
+    let nodes = c.self.inside.nodes in record {
+      value = tt;
+      walked =
+          ap (λ d. gives (counted (kind_of kind) here) (counts d)) (sym c.self.view_is)
+          ∙ node_taken here names nodes kind c.args.name.0 parent c.in-Ok.ensures.room
+          ∙ ap (λ ns. Ok (tt, counts (record { names = names; nodes = map (placed_node names) ns }))) (sym c.in-Ok.ensures.put);
+      stands = (
+        c.in-Ok.ensures.number ∙ sym (length-map nodes (placed_node names)) ∙ ap (λ d. length d.nodes) c.self.view_is,
+        ap (map (placed_node names)) c.in-Ok.ensures.put ∙ map_push (placed_node names) nodes (new_node kind c.args.name.0 parent)
+            ∙ ap (λ d. d.nodes ++ placed_node d.names (new_node kind c.args.name.0 parent) ∷ []) c.self.view_is,
+      );
+    }
 
 pub returns-clause-steps : goal.returns-clause-steps
 returns-clause-steps c =
-    let at = pointer c.args.place.now in
-    Passes-fault c.fault_at.result (record { at = at; why = TooMany }) _ _ _ c.fault_at.ensures (
-    ap (λ d. judged (counted (kind_of c.args.kind) at) (counts d)) (sym c.self.view_is)
-    ∙ node_refused at c.self.inside.names c.self.inside.nodes c.args.kind (c.in-Err-TooMany.ensures.too_many (ap Err c.in-Err-TooMany.field-0-is))
+    let here = spot_of c.args.here.now in
+    Fails-made c.fault.result here TooMany _ c.fault.ensures (
+    ap (λ d. gives (counted (kind_of c.args.kind) here) (counts d)) (sym c.self.view_is)
+    ∙ node_refused here c.self.inside.names c.self.inside.nodes c.args.kind (c.in-Err-TooMany.ensures.too_many (ap Err c.in-Err-TooMany.field-0-is))
     )

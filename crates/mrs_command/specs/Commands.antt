@@ -1,0 +1,18 @@
+-- The commands and the requests of the code as those of the definition.
+use Rattle.spec_command.specs.Commands as spec
+use Rattle.mrs_command.specs.declared.commands.Verb.{Verb}
+use Rattle.mrs_command.specs.declared.commands.Verb.TheVariants as verb
+use Rattle.mrs_command.specs.declared.commands.Release.{Release}
+use Rattle.mrs_command.specs.declared.commands.Request.{Request}
+use Rattle.mrs_command.specs.declared.commands.Request.TheVariants as code
+
+abbrev pub command_of : Verb → spec.Command
+command_of verb.List = spec.list_command
+command_of verb.Leaf = spec.leaf_command
+
+abbrev pub release_of : Release → spec.Release
+release_of release = record { insns = release.insns.now; isa = release.isa.now }
+
+abbrev pub asked_of : Request → spec.Request
+asked_of (code.List release) = spec.AskList (release_of release)
+asked_of (code.Leaf release label) = spec.AskLeaf (release_of release) label.now

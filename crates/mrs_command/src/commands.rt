@@ -1,0 +1,98 @@
+//! The commands: the word that says each, its keys, and what it asks for.
+ghost use Rattle.std.specs.Prelude.{◌≡◌, map, option_map};
+ghost use Rattle.spec_command.specs.Commands.{release};
+ghost use Rattle.spec_command.specs.Request.{is_one_of, command_named};
+ghost use Rattle.mrs_command.specs.Commands.{command_of, release_of, asked_of};
+
+use crate::settings::Settings;
+
+/// A set of instructions: the name of its document, and its own.
+#[derive(Clone, Copy, PartialEq, Eq, Debug)]
+pub struct Release<'a> {
+    pub insns: &'a str,
+    pub isa: &'a str,
+}
+
+/// What the words of a command line ask for: a command, and what its keys say.
+#[derive(Clone, Copy, PartialEq, Eq, Debug)]
+pub enum Request<'a> {
+    /// `list` lists the words of a stream.
+    List {
+        release: Release<'a>,
+    },
+    /// `leaf` shows the leaf of that label.
+    Leaf {
+        release: Release<'a>,
+        label: &'a str,
+    },
+}
+
+/// A command.
+#[derive(Clone, Copy, PartialEq, Eq, Debug)]
+pub(crate) enum Verb {
+    List,
+    Leaf,
+}
+
+impl Verb {
+    /// The command that a word says, if it says one.
+    pub(crate) fn named(word: &str) -> Option<Verb>
+        ensures { option_map command_of result ≡ command_named word.now }
+    {
+        match word {
+            "list" => Some(Verb::List),
+            "leaf" => Some(Verb::Leaf),
+            _ => None,
+        }
+    }
+
+    /// The keys of the command.
+    fn keys(self) -> &'static [&'static str]
+        ensures { map (λ key. key.now) result.now ≡ (command_of self).asks.keys }
+    {
+        match self {
+            Verb::List => &["insns", "isa"],
+            Verb::Leaf => &["insns", "isa", "label"],
+        }
+    }
+
+    /// Whether the command has this key.
+    pub(crate) fn has_key(self, key: &str) -> bool
+        ensures { result ≡ is_one_of (command_of self).asks.keys key.now }
+    {
+        is_among(self.keys(), key)
+    }
+
+    /// What the command asks for with these settings; `None` exactly where a key that it needs is missing.
+    pub(crate) fn request<'a>(self, settings: &Settings<'a>) -> Option<Request<'a>>
+        ensures { option_map asked_of result ≡ (command_of self).asks.value settings.now }
+    {
+        let release = release_in(settings)?;
+        match self {
+            Verb::List => Some(Request::List { release }),
+            Verb::Leaf => {
+                let label = settings.value("label")?;
+                Some(Request::Leaf { release, label })
+            }
+        }
+    }
+}
+
+/// The set that settings ask for; `None` exactly where they name no document.
+fn release_in<'a>(settings: &Settings<'a>) -> Option<Release<'a>>
+    ensures { option_map release_of result ≡ release.value settings.now }
+{
+    let insns = settings.value("insns")?;
+    let isa = match settings.value("isa") {
+        Some(isa) => isa,
+        None => "A64",
+    };
+    Some(Release { insns, isa })
+}
+
+#[tactic(auto, using(crate::proofs::Keys::among_keys))]
+fn is_among(keys: &[&str], key: &str) -> bool
+    ensures { result ≡ is_one_of (map (λ one. one.now) keys.now) key.now }
+{
+    keys.contains(&key)
+}

@@ -1,0 +1,49 @@
+//! The commands: what each opens, and what it does by that.
+ghost use Rattle.std.specs.Prelude.{◌≡◌, MatchResult};
+ghost use Rattle.mrs_command.specs.Commands.{asked_of};
+ghost use Rattle.spec_run.specs.End.{IsEarly};
+ghost use Rattle.mrs_query.specs.End.{end_of};
+ghost use Rattle.mrs_query.specs.Fulfilled.{Fulfils};
+
+mod leaf;
+mod list;
+
+use crate::Status;
+use crate::commands::leaf::show_leaf;
+use crate::commands::list::list_stream;
+use crate::opening::open_release;
+use crate::opening_error::OpeningError;
+use mrs_command::Request;
+use mrs_io::{Shelf, Sink, Source};
+use std::alloc::Global;
+
+/// Opens what a command names and does the command, or answers why it is not opened.
+pub(crate) fn fulfil<V: Shelf, S: Source, K: Sink>(
+    alloc: Global,
+    asked: Request<'_>,
+    shelf: &mut V,
+    input: &mut S,
+    out: &mut K,
+) -> Result<Status, OpeningError>
+    ensures fulfils { Fulfils (asked_of asked.entry) (record {
+      shelf = V.shelving shelf.old;
+      shelf_after = V.shelving shelf.new;
+      input = S.reading input.old;
+      input_after = S.reading input.new;
+      out = K.writing out.old;
+      out_after = K.writing out.new;
+    }) result }
+    ensures early { MatchResult result (λ status. IsEarly (end_of status) → (input.new ≡ input.old) × (out.new ≡ out.old))
+        (λ _. (input.new ≡ input.old) × (out.new ≡ out.old)) }
+{
+    match asked {
+        Request::List { release } => {
+            let opened = open_release(alloc, shelf, release)?;
+            Ok(list_stream(alloc, &opened, input, out))
+        }
+        Request::Leaf { release, label } => {
+            let opened = open_release(alloc, shelf, release)?;
+            Ok(show_leaf(alloc, &opened, label, out))
+        }
+    }
+}

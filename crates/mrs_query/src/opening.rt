@@ -1,0 +1,92 @@
+//! What a command names is opened: a document is fetched, read as JSON, and read as the tree of one of its sets.
+ghost use Rattle.std.specs.Prelude.{◌≡◌, ◌≤◌, Some};
+ghost use Rattle.serde_json.specs.View.{view};
+ghost use Rattle.spec_run.specs.Opening.{json_in, release_opened};
+ghost use Rattle.mrs_command.specs.Commands.{release_of};
+ghost use Rattle.mrs_query.specs.Opened.{Read, Opens, Parsed};
+
+use crate::opened::Opened;
+use crate::opening_error::OpeningError;
+use crate::{DocFault, Which};
+use insn_tree::Tree;
+use mrs_command::Release;
+use mrs_io::{FetchFault, Shelf};
+use mrs_names::Names;
+use mrs_schema::{ReadFault, read_instructions};
+use serde_json::Value;
+use std::alloc::Global;
+
+/// The greatest length of a document, in bytes.
+const DOCUMENT_LIMIT: u64 = 268_435_456;
+
+/// Why bytes are not read.
+#[derive(Drop, Debug)]
+pub(crate) enum Unread {
+    /// The document is refused.
+    Refused(DocFault),
+    /// Memory ran out.
+    NoMemory,
+}
+
+/// The set that a command asks for, or why it is not opened.
+pub(crate) fn open_release<V: Shelf>(
+    alloc: Global,
+    shelf: &mut V,
+    release: Release<'_>,
+) -> Result<Opened, OpeningError>
+    ensures opens { Opens (release_opened (release_of release.entry)) (V.shelving shelf.old) (V.shelving shelf.new) result }
+    ensures same { (V.shelving shelf.new).documents ≡ (V.shelving shelf.old).documents }
+    ensures later { (V.shelving shelf.old).faults ≤ (V.shelving shelf.new).faults }
+{
+    let which = Which::Insns;
+    let bytes = match shelf.fetch(alloc, release.insns, DOCUMENT_LIMIT) {
+        Ok(bytes) => bytes,
+        Err(FetchFault::Failed) => return Err(OpeningError::NotRead { which }),
+        Err(FetchFault::TooLong) => return Err(OpeningError::TooLong { which }),
+        Err(FetchFault::NoMemory) => return Err(OpeningError::NoMemory),
+    };
+    match read_document(alloc, &bytes, release.isa) {
+        Ok(opened) => Ok(opened),
+        Err(Unread::Refused(fault)) => Err(OpeningError::Refused { which, fault }),
+        Err(Unread::NoMemory) => Err(OpeningError::NoMemory),
+    }
+}
+
+/// The set of that name in the bytes of a document.
+fn read_document(alloc: Global, bytes: &[u8], isa: &str) -> Result<Opened, Unread>
+    ensures { Read isa.now (json_in bytes.now) result }
+{
+    let value = read_json(alloc, bytes)?;
+    read_value(alloc, &value, isa)
+}
+
+/// The JSON value that bytes are read as.
+fn read_json(alloc: Global, bytes: &[u8]) -> Result<Value, Unread>
+    ensures { Parsed (json_in bytes.now) result }
+{
+    match Value::from_slice(alloc, bytes) {
+        Ok(value) => Ok(value),
+        Err(error) => {
+            if error.is_memory() {
+                Err(Unread::NoMemory)
+            } else {
+                Err(Unread::Refused(DocFault::Json))
+            }
+        }
+    }
+}
+
+/// The set of that name in a JSON value.
+fn read_value(alloc: Global, value: &Value, isa: &str) -> Result<Opened, Unread>
+    ensures { Read isa.now (Some (view value.now)) result }
+{
+    let mut names = Names::new(alloc);
+    match read_instructions(alloc, value, isa, &mut names) {
+        Ok(arena) => match Tree::new(alloc, arena, &names) {
+            Ok(tree) => Ok(Opened::new(names, tree)),
+            Err(_) => Err(Unread::NoMemory),
+        },
+        Err(ReadFault::Schema(fault)) => Err(Unread::Refused(DocFault::Schema(fault))),
+        Err(ReadFault::NoMemory) => Err(Unread::NoMemory),
+    }
+}

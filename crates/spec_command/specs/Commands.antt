@@ -1,0 +1,41 @@
+-- The commands: the word that says each, its keys, and what it asks for. The rules are this project's own.
+use Rattle.std.specs.Prelude.{ℕ, Bool, true, List, [], ◌∷◌, codes}
+use Rattle.spec_command.specs.Ask.{Ask, needed, may_say, made_into, together}
+
+-- the set of instructions of a document: the document's name, and that of the set
+pub record Release : Type 0 where
+  pub insns : List ℕ
+  pub isa : List ℕ
+
+-- what a command asks for: one value for each command
+pub data Request : Type 0 where
+  AskList : Release → Request
+  AskLeaf : Release → List ℕ → Request
+
+-- a command: the word that says it, and what it asks of the settings behind it
+pub record Command : Type 0 where
+  pub word : List ℕ
+  pub asks : Ask Request
+
+-- `insns`, which is needed, and `isa`, which is `A64` where no setting says it
+abbrev pub release : Ask Release
+release = together (λ insns isa. record { insns = insns; isa = isa }) (needed (codes "insns")) (may_say (codes "isa") (codes "A64"))
+
+-- lists the words of a stream
+abbrev pub list_command : Command
+list_command = record { word = codes "list"; asks = made_into AskList release }
+
+-- shows one leaf
+abbrev pub leaf_command : Command
+leaf_command = record { word = codes "leaf"; asks = together AskLeaf release (needed (codes "label")) }
+
+abbrev pub commands : List Command
+commands = list_command ∷ leaf_command ∷ []
+
+-- the keys that several words may have: none
+abbrev pub repeatable : List (List ℕ)
+repeatable = []
+
+-- whether a key takes a value that is not empty: each key takes any text
+abbrev pub takes : List ℕ → List ℕ → Bool
+takes key value = true

@@ -1,0 +1,97 @@
+-- How a run ends: its status, the number with which the program ends, and the text on `err`.
+use Rattle.std.specs.Prelude.{ℕ, List, [], ◌∷◌, ◌++◌, codes, decimal, ⊤}
+use Rattle.spec_walk.specs.Event.{Fault, Why, Missing, UnlistedKind, WrongShape, BadPattern, BadRange, BadName, Doubled, TooMany, NoSet, NotYet}
+
+-- what a status names: the Instructions document, or the stream
+pub data Which : Type 0 where
+  Insns : Which
+  Input : Which
+
+-- a document has no JSON reading, or the walk over it has this first fault
+pub data DocFault : Type 0 where
+  Json : DocFault
+  Schema : Fault → DocFault
+
+-- a question has no answer: no leaf has the label
+pub data QuestionFault : Type 0 where
+  NoLeaf : QuestionFault
+
+-- the statuses
+pub data End : Type 0 where
+  Done : End
+  Ragged : ℕ → End
+  Usage : ℕ → End
+  Document : Which → DocFault → End
+  Question : QuestionFault → End
+  ReadFault : Which → End
+  WriteFault : End
+  Limit : Which → End
+  NoMemory : End
+
+-- ---- statuses that come before the stream
+
+-- a question that is asked before the stream is looked at; one on what stands in the stream is none of these
+abbrev pub IsAsked : QuestionFault → Type 0
+IsAsked NoLeaf = ⊤
+
+-- the run ended before the stream was looked at, and nothing went out
+abbrev pub IsEarly : End → Type 0
+IsEarly (Usage place) = ⊤
+IsEarly (Document which fault) = ⊤
+IsEarly (Question fault) = IsAsked fault
+IsEarly (ReadFault Insns) = ⊤
+IsEarly (Limit Insns) = ⊤
+IsEarly end = ⊥
+
+-- the words were refused
+abbrev pub IsUsage : End → Type 0
+IsUsage (Usage place) = ⊤
+IsUsage end = ⊥
+
+-- ---- the number with which the program ends, and the text on `err`
+
+abbrev pub exit_number : End → ℕ
+exit_number Done = 0
+exit_number (Ragged rest) = 1
+exit_number (Usage place) = 2
+exit_number (Document which fault) = 3
+exit_number (Question fault) = 5
+exit_number (ReadFault which) = 6
+exit_number WriteFault = 7
+exit_number (Limit which) = 8
+exit_number NoMemory = 9
+
+abbrev pub which_text : Which → List ℕ
+which_text Insns = codes "insns"
+which_text Input = codes "input"
+
+abbrev pub why_text : Why → List ℕ
+why_text (Missing member) = codes "missing:" ++ member
+why_text UnlistedKind = codes "kind"
+why_text WrongShape = codes "shape"
+why_text (BadPattern refusal) = codes "pattern"
+why_text BadRange = codes "range"
+why_text BadName = codes "name"
+why_text Doubled = codes "doubled"
+why_text TooMany = codes "many"
+why_text NoSet = codes "no-set"
+why_text NotYet = codes "not-yet"
+
+-- `json`, or the reason and the JSON Pointer of the place
+abbrev pub fault_text : DocFault → List ℕ
+fault_text Json = codes "json"
+fault_text (Schema fault) = why_text fault.why ++ 32 ∷ fault.at
+
+abbrev pub question_text : QuestionFault → List ℕ
+question_text NoLeaf = codes "leaf"
+
+abbrev pub message : End → List ℕ
+message Done = []
+message (Ragged rest) = []
+message (Usage place) = codes "usage " ++ (decimal place ++ 10 ∷ [])
+message (Document which fault) = codes "document " ++ (which_text which ++ (32 ∷ (fault_text fault ++ 10 ∷ [])))
+message (Question fault) = question_text fault ++ 10 ∷ []
+message (ReadFault which) = codes "read " ++ (which_text which ++ 10 ∷ [])
+message WriteFault = codes "write out" ++ 10 ∷ []
+message (Limit which) = codes "limit " ++ (which_text which ++ 10 ∷ [])
+message NoMemory = []

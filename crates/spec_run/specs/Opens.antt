@@ -1,0 +1,27 @@
+-- What became of an opening: what the documents give, and the shelf before it and after it.
+use Rattle.std.specs.Prelude.{◌≡◌, ◌⊎◌, List, Result, Err, IfSome, IsSomeAnd, ⊤}
+use Rattle.spec_io.specs.Faults.{Rose}
+use Rattle.spec_io.specs.Documents.{Document as Named}
+use Rattle.spec_io.specs.States.{Shelving}
+use Rattle.spec_run.specs.End.{Which, Insns, Input}
+use Rattle.spec_run.specs.Opening.{OpeningError, NotRead, TooLong, Refused}
+
+-- the stream is no document
+abbrev pub IsDocument : Which → Type 0
+IsDocument Input = ⊥
+IsDocument which = ⊤
+
+-- the shelf's count of faults stays
+abbrev pub ShelfStill : Shelving → Shelving → Type 0
+ShelfStill shelf shelf_after = shelf_after.faults ≡ shelf.faults
+
+module _ {A : Type 0} (given : List Named → Result A OpeningError) (shelf shelf_after : Shelving) where
+  -- what the documents give, where the shelf tells them
+  abbrev pub Gives : Result A OpeningError → Type 0
+  Gives result = IfSome shelf.documents (λ docs. given docs ≡ result)
+
+  -- nothing is opened: the documents give this error; where one was not read, the shelf tells them, or it failed
+  abbrev pub Fails : OpeningError → Type 0
+  Fails (NotRead which) = IsDocument which × (Rose shelf.faults shelf_after.faults ⊎ IsSomeAnd shelf.documents (λ docs. given docs ≡ Err (NotRead which)))
+  Fails (TooLong which) = IsDocument which × Gives (Err (TooLong which)) × ShelfStill shelf shelf_after
+  Fails (Refused which fault) = IsDocument which × Gives (Err (Refused which fault)) × ShelfStill shelf shelf_after
