@@ -34,9 +34,7 @@ impl<T> Watched<T> {
 }
 
 impl<V: Shelf> Shelf for Watched<V> {
-    ghost holds = { λ w. V.holds w.inner };
-
-    ghost faults = { λ w. V.faults w.inner };
+    ghost shelving = { λ w. V.shelving w.inner };
 
     fn fetch(&mut self, alloc: Global, name: &str, limit: u64) -> Result<Vec<u8>, FetchFault> {
         self.calls = self.calls.saturating_add(1);
@@ -45,9 +43,7 @@ impl<V: Shelf> Shelf for Watched<V> {
 }
 
 impl<S: Source> Source for Watched<S> {
-    ghost left = { λ w. S.left w.inner };
-
-    ghost faults = { λ w. S.faults w.inner };
+    ghost reading = { λ w. S.reading w.inner };
 
     fn read(&mut self, buf: &mut [u8]) -> Result<usize, Failed> {
         self.calls = self.calls.saturating_add(1);
@@ -58,9 +54,7 @@ impl<S: Source> Source for Watched<S> {
 }
 
 impl<K: Sink> Sink for Watched<K> {
-    ghost taken = { λ w. K.taken w.inner };
-
-    ghost faults = { λ w. K.faults w.inner };
+    ghost writing = { λ w. K.writing w.inner };
 
     fn write(&mut self, bytes: &[u8]) -> Result<usize, Failed> {
         self.calls = self.calls.saturating_add(1);
