@@ -49,8 +49,5 @@ impl Block {
 
 /// A name and, behind ` in `, that of a frame.
 fn named_in(text: &str) -> (&str, &str) {
-    match text.split_once(" in ") {
-        Some(parts) => parts,
-        None => (text, ""),
-    }
+    text.split_once(" in ").unwrap_or((text, ""))
 }

@@ -4,10 +4,7 @@ use std::alloc::Global;
 
 /// The first word of a line, and the text behind the space that follows it.
 pub(crate) fn split_key(line: &str) -> (&str, &str) {
-    match line.split_once(' ') {
-        Some(parts) => parts,
-        None => (line, ""),
-    }
+    line.split_once(' ').unwrap_or((line, ""))
 }
 
 /// A decimal number.
@@ -65,7 +62,7 @@ fn push_digits(out: &mut Vec<u8>, word: &str) -> Result<(), Stop> {
 
 /// A byte of two hexadecimal digits.
 fn joined(upper: u8, lower: u8) -> u8 {
-    (upper % 16) * 16 + lower % 16
+    upper << 4 | lower
 }
 
 /// Bytes of two hexadecimal digits each, with or without spaces between them.

@@ -81,18 +81,26 @@ impl Row {
         rt: &R,
         book: &Book,
     ) -> Result<Vec<(String, Vec<u8>)>, Stop> {
-        let alloc = rt.alloc();
-        let mut documents = Vec::new(alloc);
+        let mut documents = Vec::new(rt.alloc());
         for word in &self.words {
-            let Some((_, name)) = word.as_str().split_once('=') else {
-                continue;
-            };
+            let (_, name) = word.as_str().split_once('=').unwrap_or(("", ""));
             if let Some(bytes) = book.bytes_of(rt, name)? {
-                documents.push((String::from_str(alloc, name)?, bytes))?;
+                push_document(rt.alloc(), &mut documents, name, bytes)?;
             }
         }
         Ok(documents)
     }
+}
+
+fn push_document(
+    alloc: Global,
+    documents: &mut Vec<(String, Vec<u8>)>,
+    name: &str,
+    bytes: Vec<u8>,
+) -> Result<(), Stop> {
+    let name = String::from_str(alloc, name)?;
+    documents.push((name, bytes))?;
+    Ok(())
 }
 
 fn push_words(alloc: Global, words: &mut Vec<String>, text: &str) -> Result<(), Stop> {
