@@ -9,8 +9,13 @@ pub struct BadWord {
 }
 
 impl fmt::Display for BadWord {
+    ghost use Rattle.std.specs.Prelude.{Some, ◌++◌, codes, decimal};
+
+    ghost output = { λ bad. Some (codes "the word at place " ++ (decimal bad.place ++ codes " is refused")) };
+
     fn fmt<W: fmt::Write>(&self, f: &mut fmt::Formatter<W>) -> fmt::Result {
-        write!(f, "the word at place {} is refused", self.place)
+        let place = self.place;
+        write!(f, "the word at place {place} is refused")
     }
 }
 

@@ -6,3 +6,4 @@ pub mod MemShelf
 pub mod MemSource
 pub mod MemSink
 pub mod Files
+pub mod Texts

@@ -25,12 +25,21 @@ pub enum FetchFault {
 pub struct NoMemory;
 
 impl fmt::Display for Failed {
+    ghost use Rattle.std.specs.Prelude.{Some, codes};
+
+    ghost output = { λ _. Some (codes "the read or the write failed") };
+
     fn fmt<W: fmt::Write>(&self, f: &mut fmt::Formatter<W>) -> fmt::Result {
         write!(f, "the read or the write failed")
     }
 }
 
 impl fmt::Display for FetchFault {
+    ghost use Rattle.std.specs.Prelude.{Some};
+    ghost use Rattle.mrs_io.specs.Texts.{fault_text};
+
+    ghost output = { λ fault. Some (fault_text fault) };
+
     fn fmt<W: fmt::Write>(&self, f: &mut fmt::Formatter<W>) -> fmt::Result {
         match self {
             FetchFault::Failed => write!(f, "the document was not read"),
@@ -41,6 +50,10 @@ impl fmt::Display for FetchFault {
 }
 
 impl fmt::Display for NoMemory {
+    ghost use Rattle.std.specs.Prelude.{Some, codes};
+
+    ghost output = { λ _. Some (codes "out of memory") };
+
     fn fmt<W: fmt::Write>(&self, f: &mut fmt::Formatter<W>) -> fmt::Result {
         write!(f, "out of memory")
     }
