@@ -1,0 +1,7 @@
+mod WorkedReading
+mod WorkedEvents
+mod WorkedValues
+pub mod TruthLaws
+pub mod FieldLaws
+pub mod StayLaws
+pub mod ReadLaws

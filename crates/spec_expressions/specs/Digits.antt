@@ -26,7 +26,7 @@ holds_of ds (Some n) otherwise = truth_of (pattern_holds ds n)
 holds_of ds None otherwise = otherwise
 
 abbrev pub equal_digits : List Digit → List Digit → Truth
-equal_digits ds es = if length ds == length es then holds_of ds (number_of es) (holds_of es (number_of ds) Open) else Open
+equal_digits ds es = if length ds == length es then holds_of es (number_of ds) (holds_of ds (number_of es) Open) else Open
 
 -- the digits for the bits from the high one down to the low one, where 0 <= low <= high and there are so many
 abbrev pub digits_between : ℤ → ℤ → List Digit → Option (List Digit)

@@ -6,3 +6,4 @@ pub mod Scope
 pub mod Digits
 pub mod Operations
 pub mod Value
+pub mod Laws

@@ -1,4 +1,26 @@
-//! What an expression of a condition is, how it is read from JSON, and what it is worth under a configuration, the
-//! visible fields and a word. Definitions in `specs/`, and laws about them. The meaning of expressions is this project's
-//! own; `docs/PROFILE.md` states it.
+//! What an expression is, how it is read from JSON, and what it is worth under a configuration, the visible fields and a
+//! word. Definitions in `specs/`, and laws about them. The meaning of expressions is this project's own;
+//! `docs/PROFILE.md` states it.
 #![tactic(auto)]
+
+ghost use Rattle.spec_expressions.specs.Laws.{AreKleene, AreSlices, EachObjectIsOne, KnownStays};
+
+/// A law on truths: the tables agree with Booleans on what is known, and mirror each other.
+pub fn truths_are_kleene()
+    ensures { AreKleene }
+{}
+
+/// A law on values: one that is not Open stays as it is, whatever becomes known of further parameters.
+pub fn known_stays()
+    ensures { KnownStays }
+{}
+
+/// A law on fields: their bits write the slice of the word, and are equal to a pattern where it holds of that slice.
+pub fn fields_are_slices()
+    ensures { AreSlices }
+{}
+
+/// A law on the walk: limits apart, it has a value exactly at an object.
+pub fn each_object_is_one()
+    ensures { EachObjectIsOne }
+{}

@@ -1,0 +1,53 @@
+-- What holds of truths, values and the walk of an expression.
+use Rattle.std.specs.Prelude.{◌≡◌, ◌⊎◌, ℕ, List, length, Bool, not, ◌&&◌, ◌||◌, Some, is_some}
+use Rattle.spec_bits.specs.Bits.{slice}
+use Rattle.spec_bits.specs.Pattern.{Digit, pattern_holds}
+use Rattle.spec_walk.specs.Walk as walk
+use Rattle.spec_walk.specs.Spot.{Spot, is_object}
+use Rattle.spec_expressions.specs.Expression.{Expr}
+use Rattle.spec_expressions.specs.Reading.{expression}
+use Rattle.spec_expressions.specs.Truth.{Truth, Open, truth_of, negation, conjunction, disjunction, implication, equivalence}
+use Rattle.spec_expressions.specs.Digits.{number_of, equal_digits}
+use Rattle.spec_expressions.specs.Scope.{Field, field_digits, State, Configuration, state_of}
+use Rattle.spec_expressions.specs.Operations.{Value, ATruth}
+use Rattle.spec_expressions.specs.Value.{value}
+
+-- ---- truths
+
+-- of truths that are known the tables say what is said of Booleans, And and Or are each other's mirror, and two truths are
+-- equal where each implies the other
+pub record AreKleene : Type 0 where
+  pub not_known : (a : Bool) → negation (truth_of a) ≡ truth_of (not a)
+  pub and_known : (a b : Bool) → conjunction (truth_of a) (truth_of b) ≡ truth_of (a && b)
+  pub or_known : (a b : Bool) → disjunction (truth_of a) (truth_of b) ≡ truth_of (a || b)
+  pub twice : (a : Truth) → negation (negation a) ≡ a
+  pub not_and : (a b : Truth) → negation (conjunction a b) ≡ disjunction (negation a) (negation b)
+  pub not_or : (a b : Truth) → negation (disjunction a b) ≡ conjunction (negation a) (negation b)
+  pub iff : (a b : Truth) → equivalence a b ≡ conjunction (implication a b) (implication b a)
+
+-- ---- what is known stays
+
+-- a configuration has the state of each parameter of another one, and perhaps more parameters
+abbrev pub Extends : Configuration → Configuration → Type 0
+Extends h g = (s : List ℕ) (state : State) → state_of s g ≡ Some state → state_of s h ≡ Some state
+
+-- a value was Open, or it is the same
+abbrev pub Stays : Value → Value → Type 0
+Stays before after = (before ≡ ATruth Open) ⊎ (after ≡ before)
+
+-- a value that is not Open stays as it is, whatever becomes known of further parameters
+abbrev pub KnownStays : Type 0
+KnownStays = (e : Expr) (g h : Configuration) (fields : List Field) (w : ℕ) → Extends h g → Stays (value e g fields w) (value e h fields w)
+
+-- ---- fields
+
+-- a field's bits write the slice of the word, and are equal to a pattern of their width exactly where it holds of that slice
+pub record AreSlices : Type 0 where
+  pub number : (f : Field) (w : ℕ) → number_of (field_digits f w) ≡ Some (slice w f.start f.width)
+  pub equal : (f : Field) (w : ℕ) (ds : List Digit) → length ds ≡ f.width → equal_digits (field_digits f w) ds ≡ truth_of (pattern_holds ds (slice w f.start f.width))
+
+-- ---- the walk
+
+-- limits apart, the walk of an expression has a value exactly at an object
+abbrev pub EachObjectIsOne : Type 0
+EachObjectIsOne = (here : Spot) → is_some (walk.value (expression here)) ≡ is_object here.value
