@@ -1,7 +1,9 @@
 mod WorkedReading
 mod WorkedEvents
 mod WorkedValues
+mod WorkedConditions
 pub mod TruthLaws
+pub mod DigitLaws
 pub mod FieldLaws
 pub mod StayLaws
 pub mod ReadLaws

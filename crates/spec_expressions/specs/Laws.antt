@@ -1,5 +1,5 @@
 -- What holds of truths, values and the walk of an expression.
-use Rattle.std.specs.Prelude.{◌≡◌, ◌⊎◌, ℕ, List, length, Bool, not, ◌&&◌, ◌||◌, Some, is_some}
+use Rattle.std.specs.Prelude.{◌≡◌, ◌⊎◌, ℕ, ◌+◌, ◌-◌, ◌≤◌, ◌<◌, pos, List, length, Bool, not, ◌&&◌, ◌||◌, Some, is_some}
 use Rattle.spec_bits.specs.Bits.{slice}
 use Rattle.spec_bits.specs.Pattern.{Digit, pattern_holds}
 use Rattle.spec_walk.specs.Walk as walk
@@ -7,9 +7,9 @@ use Rattle.spec_walk.specs.Spot.{Spot, is_object}
 use Rattle.spec_expressions.specs.Expression.{Expr}
 use Rattle.spec_expressions.specs.Reading.{expression}
 use Rattle.spec_expressions.specs.Truth.{Truth, Open, truth_of, negation, conjunction, disjunction, implication, equivalence}
-use Rattle.spec_expressions.specs.Digits.{number_of, equal_digits}
+use Rattle.spec_expressions.specs.Digits.{number_of, equal_digits, digits_between}
 use Rattle.spec_expressions.specs.Scope.{Field, field_digits, State, Configuration, state_of}
-use Rattle.spec_expressions.specs.Operations.{Value, ATruth}
+use Rattle.spec_expressions.specs.Operations.{Value, ATruth, equal}
 use Rattle.spec_expressions.specs.Value.{value}
 
 -- ---- truths
@@ -39,12 +39,21 @@ Stays before after = (before ≡ ATruth Open) ⊎ (after ≡ before)
 abbrev pub KnownStays : Type 0
 KnownStays = (e : Expr) (g h : Configuration) (fields : List Field) (w : ℕ) → Extends h g → Stays (value e g fields w) (value e h fields w)
 
+-- ---- values
+
+-- either side of `==` may stand first
+abbrev pub EqualIsSymmetric : Type 0
+EqualIsSymmetric = (a b : Value) → equal a b ≡ equal b a
+
 -- ---- fields
 
--- a field's bits write the slice of the word, and are equal to a pattern of their width exactly where it holds of that slice
+-- a field's bits write the slice of the word, are equal to a pattern of their width where it holds of that slice, and a part
+-- of them is the field that has that part
 pub record AreSlices : Type 0 where
   pub number : (f : Field) (w : ℕ) → number_of (field_digits f w) ≡ Some (slice w f.start f.width)
   pub equal : (f : Field) (w : ℕ) (ds : List Digit) → length ds ≡ f.width → equal_digits (field_digits f w) ds ≡ truth_of (pattern_holds ds (slice w f.start f.width))
+  pub part : (f : Field) (w high low : ℕ) → low ≤ high → high < f.width
+      → digits_between (pos high) (pos low) (field_digits f w) ≡ Some (field_digits (record f { start = f.start + low; width = high - low + 1 }) w)
 
 -- ---- the walk
 

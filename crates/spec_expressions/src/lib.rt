@@ -3,7 +3,7 @@
 //! `docs/PROFILE.md` states it.
 #![tactic(auto)]
 
-ghost use Rattle.spec_expressions.specs.Laws.{AreKleene, AreSlices, EachObjectIsOne, KnownStays};
+ghost use Rattle.spec_expressions.specs.Laws.{AreKleene, AreSlices, EachObjectIsOne, EqualIsSymmetric, KnownStays};
 
 /// A law on truths: the tables agree with Booleans on what is known, and mirror each other.
 pub fn truths_are_kleene()
@@ -15,7 +15,13 @@ pub fn known_stays()
     ensures { KnownStays }
 {}
 
-/// A law on fields: their bits write the slice of the word, and are equal to a pattern where it holds of that slice.
+/// A law on values: either side of `==` may stand first, also where one of two bit values has `x`.
+pub fn equal_is_symmetric()
+    ensures { EqualIsSymmetric }
+{}
+
+/// A law on fields: their bits write the slice of the word, are equal to a pattern where it holds of that slice, and a
+/// part of them is the field that has that part.
 pub fn fields_are_slices()
     ensures { AreSlices }
 {}

@@ -1,0 +1,106 @@
+-- Worked values: whole conditions as documents have them, from their text to their truth.
+use Rattle.std.specs.Prelude.{◌≡◌, ℕ, zero, suc, List, [], ◌∷◌, ◌++◌, map, true, false, Option, Some, None, is_some, option_map, option_and_then, codes, refl}
+use Rattle.std.specs.Fmt.{digits}
+use Rattle.serde_json.specs.Read.{read}
+use Rattle.serde_json.proofs.OnLiterals.{serde_json_on_literals}
+use Rattle.spec_walk.specs.Walk as walk
+use Rattle.spec_walk.specs.Spot.{root, optional}
+use Rattle.spec_expressions.specs.Expression.{Expr}
+use Rattle.spec_expressions.specs.Truth.{Truth, Yes, No, Open}
+use Rattle.spec_expressions.specs.Scope.{Field, Flag, Configuration}
+use Rattle.spec_expressions.specs.Value.{truth}
+use Rattle.spec_expressions.specs.Reading.{expression}
+
+-- parameters that are on, and those that are off
+abbrev states : List (List ℕ) → List (List ℕ) → Configuration
+states on off = record { parameters = map (λ s. record { name = s; state = Flag true }) on ++ map (λ s. record { name = s; state = Flag false }) off; atoms = [] }
+
+-- the truth of a node's member `condition`, which may be absent or null
+abbrev condition_in : List ℕ → Option (Option Expr)
+condition_in text = option_and_then (λ d. walk.value (optional (codes "condition") expression (root d))) (read text)
+
+abbrev truth_of_node : List ℕ → Configuration → List Field → ℕ → Option Truth
+truth_of_node text g fields w = option_map (λ e. truth e g fields w) (condition_in text)
+
+-- ---- a feature that a node is conditioned on
+
+abbrev aese : List ℕ
+aese = codes "{\"condition\":{\"_type\":\"AST.Function\",\"name\":\"IsFeatureImplemented\",\"arguments\":[{\"_type\":\"AST.Identifier\",\"value\":\"FEAT_AES\"}]}}"
+
+feature_unknown : truth_of_node aese (states [] []) [] 0x4e284800 ≡ Some Open
+unfolding digits serde_json_on_literals
+feature_unknown = refl
+
+feature_on : truth_of_node aese (states (codes "FEAT_PMULL" ∷ codes "FEAT_AES" ∷ []) []) [] 0x4e284800 ≡ Some Yes
+unfolding digits serde_json_on_literals
+feature_on = refl
+
+feature_off : truth_of_node aese (states [] (codes "FEAT_AES" ∷ [])) [] 0x4e284800 ≡ Some No
+unfolding digits serde_json_on_literals
+feature_off = refl
+
+-- a function that has no meaning here
+exception_level : truth_of_node (codes "{\"condition\":{\"_type\":\"AST.Function\",\"name\":\"HaveEL\",\"arguments\":[{\"_type\":\"AST.Identifier\",\"value\":\"EL2\"}]}}") (states [] []) [] 0xd69f03e0 ≡ Some Open
+unfolding digits serde_json_on_literals
+exception_level = refl
+
+-- ---- no condition
+
+absent_condition : truth_of_node (codes "{\"name\":\"a\"}") (states [] []) [] 0 ≡ Some Yes
+unfolding digits serde_json_on_literals
+absent_condition = refl
+
+null_condition : truth_of_node (codes "{\"condition\":null}") (states [] []) [] 0 ≡ Some Yes
+unfolding digits serde_json_on_literals
+null_condition = refl
+
+-- `true` is no expression, and a fault of the document
+truth_as_condition : condition_in (codes "{\"condition\":true}") ≡ None
+unfolding digits serde_json_on_literals
+truth_as_condition = refl
+
+-- an object that is no expression leaves it open
+empty_condition : truth_of_node (codes "{\"condition\":{}}") (states [] []) [] 0 ≡ Some Open
+unfolding digits serde_json_on_literals
+empty_condition = refl
+
+-- ---- fields of the word
+
+-- `Rd == '11111' || Rn == '11111'`
+abbrev stack_pointer : List ℕ
+stack_pointer = codes "{\"condition\":{\"_type\":\"AST.BinaryOp\",\"op\":\"||\",\"left\":{\"_type\":\"AST.BinaryOp\",\"op\":\"==\",\"left\":{\"_type\":\"AST.Identifier\",\"value\":\"Rd\"},\"right\":{\"_type\":\"Values.Value\",\"value\":\"'11111'\"}},\"right\":{\"_type\":\"AST.BinaryOp\",\"op\":\"==\",\"left\":{\"_type\":\"AST.Identifier\",\"value\":\"Rn\"},\"right\":{\"_type\":\"Values.Value\",\"value\":\"'11111'\"}}}}"
+
+abbrev registers : List Field
+registers = record { name = codes "Rn"; start = 5; width = 5 } ∷ record { name = codes "Rd"; start = 0; width = 5 } ∷ []
+
+-- MOV X0, SP; ADD X0, X1, #1; ADD SP, X0, #1
+from_stack_pointer : truth_of_node stack_pointer (states [] []) registers 0x910003e0 ≡ Some Yes
+unfolding digits serde_json_on_literals
+from_stack_pointer = refl
+
+no_stack_pointer : truth_of_node stack_pointer (states [] []) registers 0x91000420 ≡ Some No
+unfolding digits serde_json_on_literals
+no_stack_pointer = refl
+
+to_stack_pointer : truth_of_node stack_pointer (states [] []) registers 0x9100041f ≡ Some Yes
+unfolding digits serde_json_on_literals
+to_stack_pointer = refl
+
+-- where the fields are not visible
+without_fields : truth_of_node stack_pointer (states [] []) [] 0x910003e0 ≡ Some Open
+unfolding digits serde_json_on_literals
+without_fields = refl
+
+-- ---- as deep as JSON is read
+
+abbrev nots : ℕ → List ℕ
+nots zero = codes "{\"_type\":\"AST.Bool\",\"value\":true}"
+nots (suc n) = codes "{\"_type\":\"AST.UnaryOp\",\"op\":\"!\",\"expr\":" ++ (nots n ++ codes "}")
+
+deepest : option_and_then (λ d. option_map (λ e. truth (Some e) (states [] []) [] 0) (walk.value (expression (root d)))) (read (nots 126)) ≡ Some Yes
+unfolding digits serde_json_on_literals
+deepest = refl
+
+too_deep : is_some (read (nots 127)) ≡ false
+unfolding digits serde_json_on_literals
+too_deep = refl
