@@ -7,3 +7,4 @@ pub mod DigitLaws
 pub mod FieldLaws
 pub mod StayLaws
 pub mod ReadLaws
+pub mod FormLaws

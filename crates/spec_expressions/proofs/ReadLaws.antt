@@ -11,7 +11,8 @@ use Rattle.spec_walk.specs.Walk.{Walk, Done, Stop, Meet, ◌>>>◌}
 use Rattle.spec_walk.specs.Spot.{Spot, spot, is_object}
 use Rattle.spec_walk.specs.Descend.{Inside, descend, part, parts, optional_parts, listed, several}
 use Rattle.spec_expressions.specs.Expression.{Expr, Boolean, Integer, Bits, op_named, Function, UInt, IsZero, IsOnes, IsFeatureImplemented, Named, Other, function_named}
-use Rattle.spec_expressions.specs.Shape.{Shape, Plain, AName, ANot, ABinary, ACall, ASet, AJoin, AnIndex, ASlice, ExprKind, OfBool, OfInteger, OfBits, OfIdentifier, OfUnary, OfBinary, OfFunction, OfSet, OfConcat, OfSquare, has_object, has_objects, are_objects, is_array_of_objects, says, the_one, where_so, index_shape, kind_shape, kind_named, text_at, name_at, bits_at, shape_of}
+use Rattle.spec_expressions.specs.Kind.{ExprKind, OfBool, OfInteger, OfBits, OfIdentifier, OfUnary, OfBinary, OfFunction, OfSet, OfConcat, OfSquare, kind_named}
+use Rattle.spec_expressions.specs.Shape.{Shape, Plain, AName, ANot, ABinary, ACall, ASet, AJoin, AnIndex, ASlice, has_object, has_objects, are_objects, is_array_of_objects, says, the_one, where_so, index_shape, kind_shape, text_at, name_at, bits_at, shape_of}
 use Rattle.spec_expressions.specs.Reading.{Wanted, Itself, Its, function_at, argument, formed, reader, expression}
 use Rattle.spec_expressions.specs.Laws.{EachObjectIsOne}
 

@@ -1,4 +1,5 @@
 pub mod Expression
+pub mod Kind
 pub mod Shape
 pub mod Reading
 pub mod Truth

@@ -24,13 +24,13 @@ function_at here IsOnes = Done IsOnes
 function_at here IsFeatureImplemented = Done IsFeatureImplemented
 function_at here (Named s) = named here s >>> λ _. Done (Named s)
 
--- the one argument of a square operator, or a member of it
-abbrev pub first_of_all : List Expr → Expr
-first_of_all [] = Other
-first_of_all (e ∷ es) = e
+-- the argument of a square operator, or a member of it: by the operator's shape there is one
+abbrev pub sole : List Expr → Expr
+sole [] = Other
+sole (e ∷ es) = e
 
 abbrev pub argument : Wanted → Inside Wanted Expr → Walk Expr
-argument wanted inside = inside.parts wanted (codes "arguments") >>> λ es. Done (first_of_all es)
+argument wanted inside = inside.parts wanted (codes "arguments") >>> λ es. Done (sole es)
 
 -- an expression of a shape, its parts first. The one argument that is both the high end and the low one is read once
 abbrev pub formed : Spot → Inside Wanted Expr → Shape → Walk Expr

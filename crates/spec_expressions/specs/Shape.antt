@@ -1,12 +1,13 @@
 -- What an object says of itself as an expression, before any part of it is read. An object whose `_type` or members have
 -- not the shape that is stated here is `Other`, whatever stands inside.
-use Rattle.std.specs.Prelude.{ℕ, List, [], ◌∷◌, Bool, true, false, ◌&&◌, if◌then◌else◌, Option, Some, None, codes, bytes_eq, find, option_and_then, option_map, unwrap_or, Result, Ok, Err}
+use Rattle.std.specs.Prelude.{ℕ, List, Bool, true, false, ◌&&◌, if◌then◌else◌, Option, Some, None, codes, bytes_eq, option_and_then, option_map, unwrap_or, Result, Ok, Err}
 use Rattle.spec_bits.specs.Pattern.{Digit}
 use Rattle.spec_bits.specs.PatternText.{PatternRefusal, pattern_in}
 use Rattle.serde_json.specs.Data.{Data, array, Items, no_items, item}
 use Rattle.serde_json.specs.Find.{get, as_bool, as_str, as_number, as_i64}
 use Rattle.spec_walk.specs.Name.{is_name}
 use Rattle.spec_walk.specs.Spot.{is_object}
+use Rattle.spec_expressions.specs.Kind.{ExprKind, OfBool, OfInteger, OfBits, OfIdentifier, OfUnary, OfBinary, OfFunction, OfSet, OfConcat, OfSquare, kind_named}
 use Rattle.spec_expressions.specs.Expression.{Expr, Boolean, Integer, Bits, Other, Op, op_named}
 
 pub data Shape : Type 0 where
@@ -26,36 +27,6 @@ pub data Shape : Type 0 where
   AnIndex : Shape
   ASlice : Shape
 
--- ---- kinds
-
-pub data ExprKind : Type 0 where
-  OfBool : ExprKind
-  OfInteger : ExprKind
-  OfBits : ExprKind
-  OfIdentifier : ExprKind
-  OfUnary : ExprKind
-  OfBinary : ExprKind
-  OfFunction : ExprKind
-  OfSet : ExprKind
-  OfConcat : ExprKind
-  OfSquare : ExprKind
-
--- the text of `_type`
-abbrev pub kind_text : ExprKind → List ℕ
-kind_text OfBool = codes "AST.Bool"
-kind_text OfInteger = codes "AST.Integer"
-kind_text OfBits = codes "Values.Value"
-kind_text OfIdentifier = codes "AST.Identifier"
-kind_text OfUnary = codes "AST.UnaryOp"
-kind_text OfBinary = codes "AST.BinaryOp"
-kind_text OfFunction = codes "AST.Function"
-kind_text OfSet = codes "AST.Set"
-kind_text OfConcat = codes "AST.Concat"
-kind_text OfSquare = codes "AST.SquareOp"
-
-abbrev pub kind_named : List ℕ → Option ExprKind
-kind_named s = find (λ k. bytes_eq (kind_text k) s) (OfBool ∷ OfInteger ∷ OfBits ∷ OfIdentifier ∷ OfUnary ∷ OfBinary ∷ OfFunction ∷ OfSet ∷ OfConcat ∷ OfSquare ∷ [])
-
 -- ---- members
 
 abbrev pub text_at : List ℕ → Data → Option (List ℕ)
@@ -70,11 +41,8 @@ abbrev pub says : List ℕ → List ℕ → Data → Bool
 says key wanted d = is_text wanted (text_at key d)
 
 -- the member is a text within the limits on names
-abbrev pub only_names : List ℕ → Option (List ℕ)
-only_names s = if is_name s then Some s else None
-
 abbrev pub name_at : List ℕ → Data → Option (List ℕ)
-name_at key d = option_and_then only_names (text_at key d)
+name_at key d = option_and_then (λ s. if is_name s then Some s else None) (text_at key d)
 
 -- the member is the text of a pattern
 abbrev pub accepted : Result (List Digit) PatternRefusal → Option (List Digit)
