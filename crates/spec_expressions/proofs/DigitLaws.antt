@@ -114,7 +114,7 @@ holds_of-turned ds es same = go (number_of ds) (number_of es) refl refl
     go None (Some n) e f = refl
     go None None e f = refl
 
-pub equal_digits-turned : (ds es : List Digit) → equal_digits ds es ≡ equal_digits es ds
+equal_digits-turned : (ds es : List Digit) → equal_digits ds es ≡ equal_digits es ds
 equal_digits-turned ds es = go (length ds == length es) refl
   where
     go : (t : Bool) → (length ds == length es) ≡ t → (if t then holds_of es (number_of ds) (holds_of ds (number_of es) Open) else Open) ≡ equal_digits es ds

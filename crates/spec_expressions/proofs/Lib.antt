@@ -6,5 +6,6 @@ pub mod TruthLaws
 pub mod DigitLaws
 pub mod FieldLaws
 pub mod StayLaws
+pub mod FillLaws
 pub mod ReadLaws
 pub mod FormLaws

@@ -6,7 +6,7 @@ use Rattle.spec_expressions.specs.Truth.{Truth, Yes, No, Open, negation, conjunc
 use Rattle.spec_expressions.specs.Scope.{Field, field_named, State, Configuration, state_of}
 use Rattle.spec_expressions.specs.Operations.{Value, ATruth, ANumber, APattern, as_truth, equal, compared, among, member, binary, unsigned, all_are, joined_digits, joined, sliced}
 use Rattle.spec_expressions.specs.Value.{flag, name_value, implemented, call, value, values, elements}
-use Rattle.spec_expressions.specs.Laws.{Extends, Stays, KnownStays}
+use Rattle.spec_expressions.specs.Known.{Extends, Stays, KnownStays}
 use Rattle.spec_expressions.proofs.TruthLaws.{negation-twice, negation-conjunction}
 
 -- ---- truths
@@ -15,7 +15,7 @@ use Rattle.spec_expressions.proofs.TruthLaws.{negation-twice, negation-conjuncti
 abbrev pub Kept : Truth → Truth → Type 0
 Kept before after = (before ≡ Open) ⊎ (after ≡ before)
 
-kept-negation : (a b : Truth) → Kept a b → Kept (negation a) (negation b)
+pub kept-negation : (a b : Truth) → Kept a b → Kept (negation a) (negation b)
 kept-negation a b (inl e) = inl (ap negation e)
 kept-negation a b (inr e) = inr (ap negation e)
 
@@ -62,11 +62,11 @@ kept-equivalence a b c d (inr e) (inl f) = inl (ap (equivalence a) f ∙ equival
 
 -- ---- two values
 
-kept-as_truth : (a b : Value) → Stays a b → Kept (as_truth a) (as_truth b)
+pub kept-as_truth : (a b : Value) → Stays a b → Kept (as_truth a) (as_truth b)
 kept-as_truth a b (inl e) = inl (ap as_truth e)
 kept-as_truth a b (inr e) = inr (ap as_truth e)
 
-stays-truth : (a b : Truth) → Kept a b → Stays (ATruth a) (ATruth b)
+pub stays-truth : (a b : Truth) → Kept a b → Stays (ATruth a) (ATruth b)
 stays-truth a b (inl e) = inl (ap ATruth e)
 stays-truth a b (inr e) = inr (ap ATruth e)
 
@@ -102,16 +102,16 @@ kept-compared test = kept-two (compared test) (open-compared test) (compared-ope
 
 -- ---- lists of values
 
--- the same number of values, each of which stays
+-- as many values, each of which stays
 abbrev pub AllStay : List Value → List Value → Type 0
 AllStay [] [] = ⊤
 AllStay [] (y ∷ ys) = ⊥
 AllStay (x ∷ xs) [] = ⊥
 AllStay (x ∷ xs) (y ∷ ys) = Stays x y × AllStay xs ys
 
+-- the elements of a Set, or of what is none
 abbrev pub ElementsStay : Option (List Value) → Option (List Value) → Type 0
-ElementsStay None None = ⊤
-ElementsStay None (Some ys) = ⊥
+ElementsStay None ys = ⊤
 ElementsStay (Some xs) None = ⊥
 ElementsStay (Some xs) (Some ys) = AllStay xs ys
 
@@ -122,12 +122,11 @@ kept-among a b (x ∷ xs) [] k all = absurd all
 kept-among a b (x ∷ xs) (y ∷ ys) k all = kept-disjunction (equal a x) (equal b y) (among a xs) (among b ys) (kept-equal a b x y k all.0) (kept-among a b xs ys k all.1)
 
 kept-member : (a b : Value) (xs ys : Option (List Value)) → Stays a b → ElementsStay xs ys → Kept (member a xs) (member b ys)
-kept-member a b None None k all = inl refl
-kept-member a b None (Some ys) k all = absurd all
+kept-member a b None ys k all = inl refl
 kept-member a b (Some xs) None k all = absurd all
 kept-member a b (Some xs) (Some ys) k all = kept-among a b xs ys k all
 
-kept-binary : (op : Op) (a b c d : Value) (xs ys : Option (List Value)) → Stays a b → Stays c d → ElementsStay xs ys → Kept (binary op a c xs) (binary op b d ys)
+pub kept-binary : (op : Op) (a b c d : Value) (xs ys : Option (List Value)) → Stays a b → Stays c d → ElementsStay xs ys → Kept (binary op a c xs) (binary op b d ys)
 kept-binary And a b c d xs ys k l all = kept-conjunction (as_truth a) (as_truth b) (as_truth c) (as_truth d) (kept-as_truth a b k) (kept-as_truth c d l)
 kept-binary Or a b c d xs ys k l all = kept-disjunction (as_truth a) (as_truth b) (as_truth c) (as_truth d) (kept-as_truth a b k) (kept-as_truth c d l)
 kept-binary Implies a b c d xs ys k l all = kept-disjunction (negation (as_truth a)) (negation (as_truth b)) (as_truth c) (as_truth d) (kept-negation (as_truth a) (as_truth b) (kept-as_truth a b k)) (kept-as_truth c d l)
@@ -158,7 +157,7 @@ joined_digits-stay (x ∷ xs) (y ∷ ys) all = go x all.0 (joined_digits-stay xs
     go (APattern ds) (inl e) l = absurd cc
     go (APattern ds) (inr e) (inl h) = inl (rw h refl)
 
-stays-joined : (xs ys : List Value) → AllStay xs ys → Stays (joined xs) (joined ys)
+pub stays-joined : (xs ys : List Value) → AllStay xs ys → Stays (joined xs) (joined ys)
 stays-joined [] [] all = inr refl
 stays-joined [] (y ∷ ys) all = absurd all
 stays-joined (x ∷ xs) [] all = absurd all
@@ -180,7 +179,7 @@ sliced-low_open (APattern ds) (ATruth t) = refl
 sliced-low_open (APattern ds) (ANumber z) = refl
 sliced-low_open (APattern ds) (APattern es) = refl
 
-stays-sliced : (a b c d e f : Value) → Stays a b → Stays c d → Stays e f → Stays (sliced a c e) (sliced b d f)
+pub stays-sliced : (a b c d e f : Value) → Stays a b → Stays c d → Stays e f → Stays (sliced a c e) (sliced b d f)
 stays-sliced a b c d e f (inl h) l m = inl (ap (λ v. sliced v c e) h)
 stays-sliced a b c d e f (inr h) (inl i) m = inl (ap (λ v. sliced a v e) i ∙ sliced-high_open a e)
 stays-sliced a b c d e f (inr h) (inr i) (inl j) = inl (ap (sliced a c) j ∙ sliced-low_open a c)
@@ -200,35 +199,36 @@ kept-implemented : (es : Exprs) (g h : Configuration) → Extends h g → Kept (
 kept-implemented (expr (Name s) no_exprs) g h more = kept-flag (state_of s g) (state_of s h) (more s)
 kept-implemented es g h more = inl refl
 
--- a function of one value
-stays-call-one : (f : Function) (es : Exprs) (x y : Value) (g h : Configuration) → Stays x y → Extends h g → Stays (call f es (x ∷ []) g) (call f es (y ∷ []) h)
-stays-call-one UInt es x y g h k more = stays-one unsigned refl x y k
-stays-call-one IsZero es x y g h k more = stays-one (λ v. ATruth (all_are 0 v)) refl x y k
-stays-call-one IsOnes es x y g h k more = stays-one (λ v. ATruth (all_are 1 v)) refl x y k
-stays-call-one IsFeatureImplemented es x y g h k more = stays-truth (implemented es g) (implemented es h) (kept-implemented es g h more)
-stays-call-one (Named s) es x y g h k more = inl refl
+-- a function of one value; `asked` is on the feature that its argument may name
+stays-call-one : (f : Function) (es fs : Exprs) (x y : Value) (g h : Configuration) → Stays x y → Kept (implemented es g) (implemented fs h) → Stays (call f es (x ∷ []) g) (call f fs (y ∷ []) h)
+stays-call-one UInt es fs x y g h k asked = stays-one unsigned refl x y k
+stays-call-one IsZero es fs x y g h k asked = stays-one (λ v. ATruth (all_are 0 v)) refl x y k
+stays-call-one IsOnes es fs x y g h k asked = stays-one (λ v. ATruth (all_are 1 v)) refl x y k
+stays-call-one IsFeatureImplemented es fs x y g h k asked = stays-truth (implemented es g) (implemented fs h) asked
+stays-call-one (Named s) es fs x y g h k asked = inl refl
 
-stays-call-none : (f : Function) (es : Exprs) (g h : Configuration) → Extends h g → Stays (call f es [] g) (call f es [] h)
-stays-call-none IsFeatureImplemented es g h more = stays-truth (implemented es g) (implemented es h) (kept-implemented es g h more)
-stays-call-none f es g h more = inl refl
+stays-call-none : (f : Function) (es fs : Exprs) (g h : Configuration) → Kept (implemented es g) (implemented fs h) → Stays (call f es [] g) (call f fs [] h)
+stays-call-none IsFeatureImplemented es fs g h asked = stays-truth (implemented es g) (implemented fs h) asked
+stays-call-none f es fs g h asked = inl refl
 
-stays-call-more : (f : Function) (es : Exprs) (a b : Value) (xs : List Value) (c d : Value) (ys : List Value) (g h : Configuration) → Extends h g → Stays (call f es (a ∷ b ∷ xs) g) (call f es (c ∷ d ∷ ys) h)
-stays-call-more IsFeatureImplemented es a b xs c d ys g h more = stays-truth (implemented es g) (implemented es h) (kept-implemented es g h more)
-stays-call-more f es a b xs c d ys g h more = inl refl
+stays-call-more : (f : Function) (es fs : Exprs) (a b : Value) (xs : List Value) (c d : Value) (ys : List Value) (g h : Configuration) → Kept (implemented es g) (implemented fs h)
+    → Stays (call f es (a ∷ b ∷ xs) g) (call f fs (c ∷ d ∷ ys) h)
+stays-call-more IsFeatureImplemented es fs a b xs c d ys g h asked = stays-truth (implemented es g) (implemented fs h) asked
+stays-call-more f es fs a b xs c d ys g h asked = inl refl
 
-stays-call : (f : Function) (es : Exprs) (xs ys : List Value) (g h : Configuration) → AllStay xs ys → Extends h g → Stays (call f es xs g) (call f es ys h)
-stays-call f es [] [] g h all more = stays-call-none f es g h more
-stays-call f es [] (y ∷ ys) g h all more = absurd all
-stays-call f es (x ∷ xs) [] g h all more = absurd all
-stays-call f es (x ∷ []) (y ∷ []) g h all more = stays-call-one f es x y g h all.0 more
-stays-call f es (x ∷ []) (y ∷ d ∷ ys) g h all more = absurd all.1
-stays-call f es (x ∷ b ∷ xs) (y ∷ []) g h all more = absurd all.1
-stays-call f es (x ∷ b ∷ xs) (y ∷ d ∷ ys) g h all more = stays-call-more f es x b xs y d ys g h more
+pub stays-call : (f : Function) (es fs : Exprs) (xs ys : List Value) (g h : Configuration) → AllStay xs ys → Kept (implemented es g) (implemented fs h) → Stays (call f es xs g) (call f fs ys h)
+stays-call f es fs [] [] g h all asked = stays-call-none f es fs g h asked
+stays-call f es fs [] (y ∷ ys) g h all asked = absurd all
+stays-call f es fs (x ∷ xs) [] g h all asked = absurd all
+stays-call f es fs (x ∷ []) (y ∷ []) g h all asked = stays-call-one f es fs x y g h all.0 asked
+stays-call f es fs (x ∷ []) (y ∷ d ∷ ys) g h all asked = absurd all.1
+stays-call f es fs (x ∷ b ∷ xs) (y ∷ []) g h all asked = absurd all.1
+stays-call f es fs (x ∷ b ∷ xs) (y ∷ d ∷ ys) g h all asked = stays-call-more f es fs x b xs y d ys g h asked
 
 -- ---- expressions
 
 mutual
-  stays : (e : Expr) (g h : Configuration) (fields : List Field) (w : ℕ) → Extends h g → Stays (value e g fields w) (value e h fields w)
+  pub stays : (e : Expr) (g h : Configuration) (fields : List Field) (w : ℕ) → Extends h g → Stays (value e g fields w) (value e h fields w)
   stays (Boolean b) g h fields w more = inr refl
   stays (Integer z) g h fields w more = inr refl
   stays (Bits ds) g h fields w more = inr refl
@@ -238,7 +238,7 @@ mutual
   stays (Binary op l r) g h fields w more =
       stays-truth _ _ (kept-binary op (value l g fields w) (value l h fields w) (value r g fields w) (value r h fields w) (elements r g fields w) (elements r h fields w)
       (stays l g h fields w more) (stays r g h fields w more) (elements-stay r g h fields w more))
-  stays (Call f es) g h fields w more = stays-call f es (values es g fields w) (values es h fields w) g h (values-stay es g h fields w more) more
+  stays (Call f es) g h fields w more = stays-call f es es (values es g fields w) (values es h fields w) g h (values-stay es g h fields w more) (kept-implemented es g h more)
   stays (Set es) g h fields w more = inr refl
   stays (Join es) g h fields w more = stays-joined (values es g fields w) (values es h fields w) (values-stay es g h fields w more)
   stays (Slice e high low) g h fields w more =
@@ -250,7 +250,7 @@ mutual
   values-stay no_exprs g h fields w more = tt
   values-stay (expr e es) g h fields w more = (stays e g h fields w more, values-stay es g h fields w more)
 
-  elements-stay : (e : Expr) (g h : Configuration) (fields : List Field) (w : ℕ) → Extends h g → ElementsStay (elements e g fields w) (elements e h fields w)
+  pub elements-stay : (e : Expr) (g h : Configuration) (fields : List Field) (w : ℕ) → Extends h g → ElementsStay (elements e g fields w) (elements e h fields w)
   elements-stay (Set es) g h fields w more = values-stay es g h fields w more
   elements-stay e g h fields w more = tt
 

@@ -15,7 +15,7 @@ negation-conjunction Open Yes = refl
 negation-conjunction Open No = refl
 negation-conjunction Open Open = refl
 
-pub negation-disjunction : (a b : Truth) → negation (disjunction a b) ≡ conjunction (negation a) (negation b)
+negation-disjunction : (a b : Truth) → negation (disjunction a b) ≡ conjunction (negation a) (negation b)
 negation-disjunction Yes b = refl
 negation-disjunction No b = refl
 negation-disjunction Open Yes = refl

@@ -1,16 +1,14 @@
 -- What holds of truths, values and the walk of an expression.
-use Rattle.std.specs.Prelude.{◌≡◌, ◌⊎◌, ℕ, ◌+◌, ◌-◌, ◌≤◌, ◌<◌, pos, List, length, Bool, not, ◌&&◌, ◌||◌, Some, is_some}
+use Rattle.std.specs.Prelude.{◌≡◌, ℕ, ◌+◌, ◌-◌, ◌≤◌, ◌<◌, pos, List, length, Bool, not, ◌&&◌, ◌||◌, Some, is_some}
 use Rattle.spec_bits.specs.Bits.{slice}
 use Rattle.spec_bits.specs.Pattern.{Digit, pattern_holds}
 use Rattle.spec_walk.specs.Walk as walk
 use Rattle.spec_walk.specs.Spot.{Spot, is_object}
-use Rattle.spec_expressions.specs.Expression.{Expr}
 use Rattle.spec_expressions.specs.Reading.{expression}
-use Rattle.spec_expressions.specs.Truth.{Truth, Open, truth_of, negation, conjunction, disjunction, implication, equivalence}
+use Rattle.spec_expressions.specs.Truth.{Truth, truth_of, negation, conjunction, disjunction, implication, equivalence}
 use Rattle.spec_expressions.specs.Digits.{number_of, equal_digits, digits_between}
-use Rattle.spec_expressions.specs.Scope.{Field, field_digits, State, Configuration, state_of}
-use Rattle.spec_expressions.specs.Operations.{Value, ATruth, equal}
-use Rattle.spec_expressions.specs.Value.{value}
+use Rattle.spec_expressions.specs.Scope.{Field, field_digits}
+use Rattle.spec_expressions.specs.Operations.{Value, equal}
 
 -- ---- truths
 
@@ -24,20 +22,6 @@ pub record AreKleene : Type 0 where
   pub not_and : (a b : Truth) → negation (conjunction a b) ≡ disjunction (negation a) (negation b)
   pub not_or : (a b : Truth) → negation (disjunction a b) ≡ conjunction (negation a) (negation b)
   pub iff : (a b : Truth) → equivalence a b ≡ conjunction (implication a b) (implication b a)
-
--- ---- what is known stays
-
--- a configuration has the state of each parameter of another one, and perhaps more parameters
-abbrev pub Extends : Configuration → Configuration → Type 0
-Extends h g = (s : List ℕ) (state : State) → state_of s g ≡ Some state → state_of s h ≡ Some state
-
--- a value was Open, or it is the same
-abbrev pub Stays : Value → Value → Type 0
-Stays before after = (before ≡ ATruth Open) ⊎ (after ≡ before)
-
--- a value that is not Open stays as it is, whatever becomes known of further parameters
-abbrev pub KnownStays : Type 0
-KnownStays = (e : Expr) (g h : Configuration) (fields : List Field) (w : ℕ) → Extends h g → Stays (value e g fields w) (value e h fields w)
 
 -- ---- values
 

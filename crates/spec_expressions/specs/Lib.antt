@@ -7,4 +7,5 @@ pub mod Scope
 pub mod Digits
 pub mod Operations
 pub mod Value
+pub mod Known
 pub mod Laws

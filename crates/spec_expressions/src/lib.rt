@@ -3,16 +3,19 @@
 //! `docs/PROFILE.md` states it.
 #![tactic(auto)]
 
-ghost use Rattle.spec_expressions.specs.Laws.{AreKleene, AreSlices, EachObjectIsOne, EqualIsSymmetric, KnownStays};
+ghost use Rattle.spec_expressions.specs.Known.{KnownStays, RestsOnNoOther};
+ghost use Rattle.spec_expressions.specs.Laws.{AreKleene, AreSlices, EachObjectIsOne, EqualIsSymmetric};
 
 /// A law on truths: the tables agree with Booleans on what is known, and mirror each other.
 pub fn truths_are_kleene()
     ensures { AreKleene }
 {}
 
-/// A law on values: one that is not Open stays as it is, whatever becomes known of further parameters.
+/// A law on values: one that is not Open stays as it is, whatever becomes known of further parameters, and whatever the
+/// objects may mean that are read as Other.
 pub fn known_stays()
-    ensures { KnownStays }
+    ensures parameters { KnownStays }
+    ensures others { RestsOnNoOther }
 {}
 
 /// A law on values: either side of `==` may stand first, also where one of two bit values has `x`.
