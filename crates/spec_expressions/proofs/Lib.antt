@@ -9,3 +9,4 @@ pub mod StayLaws
 pub mod FillLaws
 pub mod ReadLaws
 pub mod FormLaws
+pub mod LimitLaws

@@ -4,9 +4,10 @@
 #![tactic(auto)]
 
 ghost use Rattle.spec_expressions.specs.Known.{KnownStays, RestsOnNoOther};
-ghost use Rattle.spec_expressions.specs.Laws.{AreKleene, AreSlices, EachObjectIsOne, EqualIsSymmetric};
+ghost use Rattle.spec_expressions.specs.Laws.{AreKleene, AreSlices, EachObjectIsOne, EqualIsSymmetric, NamesAreLimited};
 
-/// A law on truths: the tables agree with Booleans on what is known, and mirror each other.
+/// A law on truths: the tables are Kleene's strong ones. They agree with Booleans on what is known, a No decides an And
+/// beside anything, and And and Or mirror each other.
 pub fn truths_are_kleene()
     ensures { AreKleene }
 {}
@@ -32,4 +33,9 @@ pub fn fields_are_slices()
 /// A law on the walk: limits apart, it has a value exactly at an object.
 pub fn each_object_is_one()
     ensures { EachObjectIsOne }
+{}
+
+/// A law on the walk: the limit on names is passed at the expression that holds the name, behind its parts.
+pub fn names_are_limited()
+    ensures { NamesAreLimited }
 {}
