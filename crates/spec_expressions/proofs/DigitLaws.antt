@@ -8,7 +8,7 @@ use Rattle.std.proofs.lemmas.Cmp.{int_eq_equiv}
 use Rattle.spec_bits.specs.Bits.{bit_of}
 use Rattle.spec_bits.specs.Pattern.{Digit, Zero, One, Either, digit_value, digit_holds, pattern_holds}
 use Rattle.spec_expressions.specs.Truth.{Truth, Yes, No, Open, truth_of, equivalence}
-use Rattle.spec_expressions.specs.Digits.{number_of, holds_of, equal_digits}
+use Rattle.spec_expressions.specs.Digits.{number_of, hold_of, equal_digits}
 use Rattle.spec_expressions.specs.Operations.{ATruth, ANumber, APattern}
 use Rattle.spec_expressions.specs.Laws.{EqualIsSymmetric}
 
@@ -105,10 +105,14 @@ holds-turned ds es m n same d e =
     pattern_holds-number es n m e ∙ ap (λ x. x == n) (mod-eq_of_lt (subst (λ k. m < 2 ^ k) same (number_of-below ds m d)))
     ∙ turned m n ∙ sym (pattern_holds-number ds m n d ∙ ap (λ x. x == m) (mod-eq_of_lt (subst (λ k. n < 2 ^ k) (sym same) (number_of-below es n e))))
 
-holds_of-turned : (ds es : List Digit) → length ds ≡ length es → holds_of es (number_of ds) (holds_of ds (number_of es) Open) ≡ holds_of ds (number_of es) (holds_of es (number_of ds) Open)
-holds_of-turned ds es same = go (number_of ds) (number_of es) refl refl
+hold_of-turned : (ds es : List Digit) → length ds ≡ length es → unwrap_or (hold_of es ds) (unwrap_or (hold_of ds es) Open) ≡ unwrap_or (hold_of ds es) (unwrap_or (hold_of es ds) Open)
+hold_of-turned ds es same = go (number_of ds) (number_of es) refl refl
   where
-    go : (o p : Option ℕ) → number_of ds ≡ o → number_of es ≡ p → holds_of es o (holds_of ds p Open) ≡ holds_of ds p (holds_of es o Open)
+    -- whether the pattern holds of a number, where there is one
+    holds : List Digit → Option ℕ → Option Truth
+    holds ds o = option_map (λ n. truth_of (pattern_holds ds n)) o
+
+    go : (o p : Option ℕ) → number_of ds ≡ o → number_of es ≡ p → unwrap_or (holds es o) (unwrap_or (holds ds p) Open) ≡ unwrap_or (holds ds p) (unwrap_or (holds es o) Open)
     go (Some m) (Some n) e f = ap truth_of (holds-turned ds es m n same e f)
     go (Some m) None e f = refl
     go None (Some n) e f = refl
@@ -117,8 +121,8 @@ holds_of-turned ds es same = go (number_of ds) (number_of es) refl refl
 equal_digits-turned : (ds es : List Digit) → equal_digits ds es ≡ equal_digits es ds
 equal_digits-turned ds es = go (length ds == length es) refl
   where
-    go : (t : Bool) → (length ds == length es) ≡ t → (if t then holds_of es (number_of ds) (holds_of ds (number_of es) Open) else Open) ≡ equal_digits es ds
-    go true e = let same : length ds ≡ length es = grind (arith, nat_tests, e) in rw (← turned (length ds) (length es), e) (holds_of-turned ds es same)
+    go : (t : Bool) → (length ds == length es) ≡ t → (if t then unwrap_or (hold_of es ds) (unwrap_or (hold_of ds es) Open) else Open) ≡ equal_digits es ds
+    go true e = let same : length ds ≡ length es = grind (arith, nat_tests, e) in rw (← turned (length ds) (length es), e) (hold_of-turned ds es same)
     go false e = rw (← turned (length ds) (length es), e) refl
 
 equivalence-turned : (a b : Truth) → equivalence a b ≡ equivalence b a

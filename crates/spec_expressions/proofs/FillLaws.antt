@@ -5,7 +5,7 @@ use Rattle.spec_expressions.specs.Scope.{Field, Configuration}
 use Rattle.spec_expressions.specs.Operations.{as_truth}
 use Rattle.spec_expressions.specs.Value.{implemented, value, values, elements}
 use Rattle.spec_expressions.specs.Known.{Stays, Extends, Fills, AllFill, RestsOnNoOther}
-use Rattle.spec_expressions.proofs.StayLaws.{Kept, AllStay, ElementsStay, kept-negation, kept-as_truth, stays-truth, kept-binary, stays-joined, stays-sliced, stays-call, stays, elements-stay}
+use Rattle.spec_expressions.proofs.StayLaws.{Kept, AllStay, ElementsStay, kept-negation, kept-as_truth, stays-truth, kept-binary, stays-in_a_row, stays-sliced, stays-call, stays, elements-stay}
 
 same : (g : Configuration) → Extends g g
 same g s state e = e
@@ -29,7 +29,7 @@ mutual
       subst (λ name'. Stays (value (Call name es) g fields w) (value (Call name' fs) g fields w)) fills.0
       (stays-call name es fs (values es g fields w) (values fs g fields w) g g (values-filled es fs g fields w fills.1) (kept-filled es fs g fills.1))
   filled (Set es) (Set fs) g fields w fills = inl refl
-  filled (Join es) (Join fs) g fields w fills = stays-joined (values es g fields w) (values fs g fields w) (values-filled es fs g fields w fills)
+  filled (Join es) (Join fs) g fields w fills = stays-in_a_row (values es g fields w) (values fs g fields w) (values-filled es fs g fields w fills)
   filled (Slice e high low) (Slice e' high' low') g fields w fills =
       stays-sliced (value e g fields w) (value e' g fields w) (value high g fields w) (value high' g fields w) (value low g fields w) (value low' g fields w)
       (filled e e' g fields w fills.0) (filled high high' g fields w fills.1) (filled low low' g fields w fills.2)

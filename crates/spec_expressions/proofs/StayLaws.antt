@@ -4,10 +4,10 @@ use Rattle.std.specs.Prelude.{⊤}
 use Rattle.spec_expressions.specs.Expression.{Op, And, Or, Implies, Iff, Eq, Ne, Lt, Le, Gt, Ge, Member, Function, UInt, IsZero, IsOnes, IsFeatureImplemented, Named, Expr, Boolean, Integer, Bits, Name, Not, Binary, Call, Set, Join, Slice, Other, Exprs, no_exprs, expr}
 use Rattle.spec_expressions.specs.Truth.{Truth, Yes, No, Open, negation, conjunction, disjunction, equivalence}
 use Rattle.spec_expressions.specs.Scope.{Field, field_named, State, Configuration, state_of}
-use Rattle.spec_expressions.specs.Operations.{Value, ATruth, ANumber, APattern, as_truth, equal, compared, among, member, binary, unsigned, all_are, joined_digits, joined, sliced}
-use Rattle.spec_expressions.specs.Value.{flag, name_value, implemented, call, value, values, elements}
+use Rattle.spec_expressions.specs.Operations.{Value, ATruth, ANumber, APattern, as_truth, equal, compared, among, member, binary, unsigned, all_are, digits_in_a_row, in_a_row, sliced}
+use Rattle.spec_expressions.specs.Value.{state_value, name_value, implemented, call, value, values, elements}
 use Rattle.spec_expressions.specs.Known.{Extends, Stays, KnownStays}
-use Rattle.spec_expressions.proofs.TruthLaws.{negation-twice, negation-conjunction}
+use Rattle.spec_expressions.proofs.TruthLaws.{negation-twice, conjunction-no, negation-conjunction}
 
 -- ---- truths
 
@@ -18,12 +18,6 @@ Kept before after = (before ≡ Open) ⊎ (after ≡ before)
 pub kept-negation : (a b : Truth) → Kept a b → Kept (negation a) (negation b)
 kept-negation a b (inl e) = inl (ap negation e)
 kept-negation a b (inr e) = inr (ap negation e)
-
--- a No at either side decides
-conjunction-no : (a : Truth) → conjunction a No ≡ No
-conjunction-no Yes = refl
-conjunction-no No = refl
-conjunction-no Open = refl
 
 kept-open-and : (a b c : Truth) → Kept b c → Kept (conjunction Open b) (conjunction a c)
 kept-open-and a Yes c k = inl refl
@@ -144,28 +138,28 @@ stays-one : (f : Value → Value) → f (ATruth Open) ≡ ATruth Open → (a b :
 stays-one f at_open a b (inl e) = inl (ap f e ∙ at_open)
 stays-one f at_open a b (inr e) = inr (ap f e)
 
-joined_digits-stay : (xs ys : List Value) → AllStay xs ys → (joined_digits xs ≡ None) ⊎ (ys ≡ xs)
-joined_digits-stay [] [] all = inr refl
-joined_digits-stay [] (y ∷ ys) all = absurd all
-joined_digits-stay (x ∷ xs) [] all = absurd all
-joined_digits-stay (x ∷ xs) (y ∷ ys) all = go x all.0 (joined_digits-stay xs ys all.1)
+digits_in_a_row-stay : (xs ys : List Value) → AllStay xs ys → (digits_in_a_row xs ≡ None) ⊎ (ys ≡ xs)
+digits_in_a_row-stay [] [] all = inr refl
+digits_in_a_row-stay [] (y ∷ ys) all = absurd all
+digits_in_a_row-stay (x ∷ xs) [] all = absurd all
+digits_in_a_row-stay (x ∷ xs) (y ∷ ys) all = go x all.0 (digits_in_a_row-stay xs ys all.1)
   where
-    go : (x : Value) → Stays x y → (joined_digits xs ≡ None) ⊎ (ys ≡ xs) → (joined_digits (x ∷ xs) ≡ None) ⊎ (y ∷ ys ≡ x ∷ xs)
+    go : (x : Value) → Stays x y → (digits_in_a_row xs ≡ None) ⊎ (ys ≡ xs) → (digits_in_a_row (x ∷ xs) ≡ None) ⊎ (y ∷ ys ≡ x ∷ xs)
     go x (inr e) (inr h) = inr (ap₂ (λ a b. a ∷ b) e h)
     go (ATruth t) k l = inl refl
     go (ANumber z) k l = inl refl
     go (APattern ds) (inl e) l = absurd cc
     go (APattern ds) (inr e) (inl h) = inl (rw h refl)
 
-pub stays-joined : (xs ys : List Value) → AllStay xs ys → Stays (joined xs) (joined ys)
-stays-joined [] [] all = inr refl
-stays-joined [] (y ∷ ys) all = absurd all
-stays-joined (x ∷ xs) [] all = absurd all
-stays-joined (x ∷ xs) (y ∷ ys) all = go (joined_digits-stay (x ∷ xs) (y ∷ ys) all)
+pub stays-in_a_row : (xs ys : List Value) → AllStay xs ys → Stays (in_a_row xs) (in_a_row ys)
+stays-in_a_row [] [] all = inr refl
+stays-in_a_row [] (y ∷ ys) all = absurd all
+stays-in_a_row (x ∷ xs) [] all = absurd all
+stays-in_a_row (x ∷ xs) (y ∷ ys) all = go (digits_in_a_row-stay (x ∷ xs) (y ∷ ys) all)
   where
-    go : (joined_digits (x ∷ xs) ≡ None) ⊎ (y ∷ ys ≡ x ∷ xs) → Stays (joined (x ∷ xs)) (joined (y ∷ ys))
+    go : (digits_in_a_row (x ∷ xs) ≡ None) ⊎ (y ∷ ys ≡ x ∷ xs) → Stays (in_a_row (x ∷ xs)) (in_a_row (y ∷ ys))
     go (inl e) = inl (rw e refl)
-    go (inr e) = inr (ap joined e)
+    go (inr e) = inr (ap in_a_row e)
 
 sliced-high_open : (v low : Value) → sliced v (ATruth Open) low ≡ ATruth Open
 sliced-high_open (ATruth t) low = refl
@@ -187,16 +181,16 @@ stays-sliced a b c d e f (inr h) (inr i) (inr j) = inr (rw (h, i, j) refl)
 
 -- ---- names and functions
 
-kept-flag : (s t : Option State) → ((state : State) → s ≡ Some state → t ≡ Some state) → Kept (flag s) (flag t)
-kept-flag None t same = inl refl
-kept-flag (Some state) t same = inr (ap flag (same state refl))
+stays-state : (s t : Option State) → ((state : State) → s ≡ Some state → t ≡ Some state) → Stays (state_value s) (state_value t)
+stays-state None t same = inl refl
+stays-state (Some state) t same = inr (ap state_value (same state refl))
 
 stays-name : (found : Option Field) (s t : Option State) (w : ℕ) → ((state : State) → s ≡ Some state → t ≡ Some state) → Stays (name_value found s w) (name_value found t w)
 stays-name (Some f) s t w same = inr refl
-stays-name None s t w same = stays-truth (flag s) (flag t) (kept-flag s t same)
+stays-name None s t w same = stays-state s t same
 
 kept-implemented : (es : Exprs) (g h : Configuration) → Extends h g → Kept (implemented es g) (implemented es h)
-kept-implemented (expr (Name s) no_exprs) g h more = kept-flag (state_of s g) (state_of s h) (more s)
+kept-implemented (expr (Name s) no_exprs) g h more = kept-as_truth (state_value (state_of s g)) (state_value (state_of s h)) (stays-state (state_of s g) (state_of s h) (more s))
 kept-implemented es g h more = inl refl
 
 -- a function of one value; `asked` is on the feature that its argument may name
@@ -240,7 +234,7 @@ mutual
       (stays l g h fields w more) (stays r g h fields w more) (elements-stay r g h fields w more))
   stays (Call f es) g h fields w more = stays-call f es es (values es g fields w) (values es h fields w) g h (values-stay es g h fields w more) (kept-implemented es g h more)
   stays (Set es) g h fields w more = inr refl
-  stays (Join es) g h fields w more = stays-joined (values es g fields w) (values es h fields w) (values-stay es g h fields w more)
+  stays (Join es) g h fields w more = stays-in_a_row (values es g fields w) (values es h fields w) (values-stay es g h fields w more)
   stays (Slice e high low) g h fields w more =
       stays-sliced (value e g fields w) (value e h fields w) (value high g fields w) (value high h fields w) (value low g fields w) (value low h fields w)
       (stays e g h fields w more) (stays high g h fields w more) (stays low g h fields w more)

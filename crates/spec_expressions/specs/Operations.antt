@@ -40,11 +40,12 @@ abbrev pub compared : (ℤ → ℤ → Bool) → Value → Value → Truth
 compared test (ANumber x) (ANumber y) = truth_of (test x y)
 compared test a b = Open
 
--- a value is equal to one of the elements of a Set; where the right side is no Set, this is Open
+-- whether a value is equal to one of these: the Or of `==` over them, which is No where there is none
 abbrev pub among : Value → List Value → Truth
 among v [] = No
 among v (x ∷ xs) = disjunction (equal v x) (among v xs)
 
+-- whether it is a member of the right side, of which these are the elements: Open where that is no Set
 abbrev pub member : Value → Option (List Value) → Truth
 member v (Some xs) = among v xs
 member v None = Open
@@ -72,20 +73,20 @@ unsigned v = ATruth Open
 
 -- whether all bits without `x` are 0, or are 1
 abbrev pub all_are : ℕ → Value → Truth
-all_are bit (APattern ds) = each_is bit ds (number_of ds)
+all_are bit (APattern ds) = each_is bit ds
 all_are bit v = Open
 
--- bits joined, where all parts are bits
-abbrev pub joined_digits : List Value → Option (List Digit)
-joined_digits [] = Some []
-joined_digits (APattern ds ∷ vs) = option_map (λ es. ds ++ es) (joined_digits vs)
-joined_digits (ATruth t ∷ vs) = None
-joined_digits (ANumber z ∷ vs) = None
+-- the digits of all parts, those of the first in front, where all parts are bits
+abbrev pub digits_in_a_row : List Value → Option (List Digit)
+digits_in_a_row [] = Some []
+digits_in_a_row (APattern ds ∷ vs) = option_map (λ es. ds ++ es) (digits_in_a_row vs)
+digits_in_a_row (ATruth t ∷ vs) = None
+digits_in_a_row (ANumber z ∷ vs) = None
 
--- at least one part, and at most 128 digits in all
-abbrev pub joined : List Value → Value
-joined [] = ATruth Open
-joined (v ∷ vs) = bits_or_open (option_and_then (λ ds. if nat_le (length ds) 128 then Some ds else None) (joined_digits (v ∷ vs)))
+-- bits joined: at least one part, and at most 128 digits in all
+abbrev pub in_a_row : List Value → Value
+in_a_row [] = ATruth Open
+in_a_row (v ∷ vs) = bits_or_open (option_and_then (λ ds. if nat_le (length ds) 128 then Some ds else None) (digits_in_a_row (v ∷ vs)))
 
 abbrev pub sliced : Value → Value → Value → Value
 sliced (APattern ds) (ANumber high) (ANumber low) = bits_or_open (digits_between high low ds)

@@ -3,21 +3,21 @@ use Rattle.std.specs.Prelude.{ℕ, List, [], ◌∷◌, Option, Some, None}
 use Rattle.spec_expressions.specs.Expression.{Function, UInt, IsZero, IsOnes, IsFeatureImplemented, Expr, Boolean, Integer, Bits, Name, Not, Binary, Call, Set, Join, Slice, Other, Exprs, no_exprs, expr}
 use Rattle.spec_expressions.specs.Truth.{Truth, Yes, Open, truth_of, negation}
 use Rattle.spec_expressions.specs.Scope.{Field, field_named, field_digits, State, Flag, Configuration, state_of}
-use Rattle.spec_expressions.specs.Operations.{Value, ATruth, ANumber, APattern, as_truth, binary, unsigned, all_are, joined, sliced}
+use Rattle.spec_expressions.specs.Operations.{Value, ATruth, ANumber, APattern, as_truth, binary, unsigned, all_are, in_a_row, sliced}
 
--- a boolean parameter's state; Open where no parameter has the name
-abbrev pub flag : Option State → Truth
-flag (Some (Flag b)) = truth_of b
-flag None = Open
+-- the value of a parameter's state: of a boolean one its truth; Open where no parameter has the name
+abbrev pub state_value : Option State → Value
+state_value (Some (Flag b)) = ATruth (truth_of b)
+state_value None = ATruth Open
 
--- a name is the bits of the visible field of that name, else the truth of the boolean parameter of that name
+-- a name is the bits of the visible field of that name, else the value of the parameter of that name
 abbrev pub name_value : Option Field → Option State → ℕ → Value
 name_value (Some f) state w = APattern (field_digits f w)
-name_value None state w = ATruth (flag state)
+name_value None state w = state_value state
 
 -- a feature is asked for by its name, whatever fields are visible
 abbrev pub implemented : Exprs → Configuration → Truth
-implemented (expr (Name s) no_exprs) g = flag (state_of s g)
+implemented (expr (Name s) no_exprs) g = as_truth (state_value (state_of s g))
 implemented es g = Open
 
 -- a function of one argument: of its value, or of the name that it is
@@ -38,7 +38,7 @@ abbrev mutual
   value (Binary op l r) g fields w = ATruth (binary op (value l g fields w) (value r g fields w) (elements r g fields w))
   value (Call f es) g fields w = call f es (values es g fields w) g
   value (Set es) g fields w = ATruth Open
-  value (Join es) g fields w = joined (values es g fields w)
+  value (Join es) g fields w = in_a_row (values es g fields w)
   value (Slice e high low) g fields w = sliced (value e g fields w) (value high g fields w) (value low g fields w)
   value Other g fields w = ATruth Open
 
