@@ -72,7 +72,7 @@ mutual
     Join : Exprs → Expr
     -- of some bits those from a high one down to a low one
     Slice : Expr → Expr → Expr → Expr
-    -- an object that is none of these
+    -- an object that is none of these. Two of them need not mean the same: equality of expressions is not equality of atoms
     Other : Expr
 
   pub data Exprs : Type 0 where

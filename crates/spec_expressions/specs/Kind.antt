@@ -1,4 +1,5 @@
--- The kinds of objects that are expressions, by the text of their `_type`.
+-- The kinds of objects that are expressions, by the text of their `_type`. The kinds and their texts are this project's own,
+-- written after AARCHMRS, Arm's machine-readable architecture.
 use Rattle.std.specs.Prelude.{ℕ, List, [], ◌∷◌, Option, codes, bytes_eq, find}
 
 pub data ExprKind : Type 0 where
@@ -14,17 +15,17 @@ pub data ExprKind : Type 0 where
   OfSquare : ExprKind
 
 -- the text of `_type`
-abbrev pub kind_text : ExprKind → List ℕ
-kind_text OfBool = codes "AST.Bool"
-kind_text OfInteger = codes "AST.Integer"
-kind_text OfBits = codes "Values.Value"
-kind_text OfIdentifier = codes "AST.Identifier"
-kind_text OfUnary = codes "AST.UnaryOp"
-kind_text OfBinary = codes "AST.BinaryOp"
-kind_text OfFunction = codes "AST.Function"
-kind_text OfSet = codes "AST.Set"
-kind_text OfConcat = codes "AST.Concat"
-kind_text OfSquare = codes "AST.SquareOp"
+abbrev pub type_text : ExprKind → List ℕ
+type_text OfBool = codes "AST.Bool"
+type_text OfInteger = codes "AST.Integer"
+type_text OfBits = codes "Values.Value"
+type_text OfIdentifier = codes "AST.Identifier"
+type_text OfUnary = codes "AST.UnaryOp"
+type_text OfBinary = codes "AST.BinaryOp"
+type_text OfFunction = codes "AST.Function"
+type_text OfSet = codes "AST.Set"
+type_text OfConcat = codes "AST.Concat"
+type_text OfSquare = codes "AST.SquareOp"
 
 abbrev pub kind_named : List ℕ → Option ExprKind
-kind_named s = find (λ k. bytes_eq (kind_text k) s) (OfBool ∷ OfInteger ∷ OfBits ∷ OfIdentifier ∷ OfUnary ∷ OfBinary ∷ OfFunction ∷ OfSet ∷ OfConcat ∷ OfSquare ∷ [])
+kind_named s = find (λ k. bytes_eq (type_text k) s) (OfBool ∷ OfInteger ∷ OfBits ∷ OfIdentifier ∷ OfUnary ∷ OfBinary ∷ OfFunction ∷ OfSet ∷ OfConcat ∷ OfSquare ∷ [])

@@ -52,6 +52,6 @@ abbrev pub reader : Reader Wanted Expr
 reader Itself here inside = an_object here >>> λ _. formed here inside (shape_of here.value)
 reader (Its key) here inside = inside.part Itself key
 
--- the expression at a place: a value that is no object is a fault, and nothing else is
+-- the expression at a place: limits apart, a value that is no object is a fault, and nothing else is
 abbrev pub expression : Spot → Walk Expr
 expression here = at_spot reader Itself here

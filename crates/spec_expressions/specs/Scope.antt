@@ -29,8 +29,8 @@ pub record Parameter : Type 0 where
   pub name : List ℕ
   pub state : State
 
--- a configuration: a state for each parameter, whose names are distinct, and whether each free atom of the constraints
--- holds. Atoms play no part in values
+-- a configuration: a state for each parameter that can have one (today the boolean ones), in order, with distinct names,
+-- and whether each free atom of the constraints holds. Atoms play no part in values
 pub record Configuration : Type 0 where
   pub parameters : List Parameter
   pub atoms : List Bool

@@ -1,5 +1,6 @@
 -- What an object says of itself as an expression, before any part of it is read. An object whose `_type` or members have
--- not the shape that is stated here is `Other`, whatever stands inside.
+-- not the shape that is stated here is `Other`, whatever stands inside. Members and shapes are this project's own, written
+-- after AARCHMRS.
 use Rattle.std.specs.Prelude.{ℕ, List, Bool, true, false, ◌&&◌, if◌then◌else◌, Option, Some, None, codes, bytes_eq, option_and_then, option_map, unwrap_or, Result, Ok, Err}
 use Rattle.spec_bits.specs.Pattern.{Digit}
 use Rattle.spec_bits.specs.PatternText.{PatternRefusal, pattern_in}

@@ -1,5 +1,6 @@
--- Truths of three values, after S. C. Kleene's strong tables: Open stands for a truth that is not known, and what
--- follows from the others alone is known all the same.
+-- Truths of three values: Open stands for a truth that is not known, and what follows from the others alone is known all the
+-- same. The tables are the strong ones of three-valued logic in S. C. Kleene, Introduction to Metamathematics (1952),
+-- section 64.
 use Rattle.std.specs.Prelude.{Bool, true, false}
 
 pub data Truth : Type 0 where

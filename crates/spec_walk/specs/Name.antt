@@ -1,4 +1,5 @@
--- The limits on names: of nodes and fields, of parameters, and inside expressions.
+-- The limits on names: of nodes, of fields of encodesets, of parameters, and inside expressions. Names of registers and of
+-- their fields have wider ones.
 use Rattle.std.specs.Prelude.{ℕ, Bool, not, ◌&&◌, ◌||◌, ◌==◌, List, length, nat_le}
 use Rattle.std.specs.List.{list_all}
 
