@@ -1,5 +1,5 @@
 -- Worked values: small texts read as expressions, with the names that take a number on the way and how many expressions are counted.
-use Rattle.std.specs.Prelude.{◌≡◌, ℕ, pos, negsuc, List, [], ◌∷◌, replicate, true, false, Option, Some, Result, Ok, Err, option_map, codes, refl}
+use Rattle.std.specs.Prelude.{◌≡◌, ℕ, pos, negsuc, List, [], ◌∷◌, replicate, true, false, Option, Some, None, Result, Ok, Err, option_map, codes, refl}
 use Rattle.std.specs.Fmt.{digits}
 use Rattle.serde_json.specs.Read.{read}
 use Rattle.serde_json.proofs.OnLiterals.{serde_json_on_literals}
@@ -8,7 +8,7 @@ use Rattle.spec_walk.specs.Event.{Fault, WrongShape}
 use Rattle.spec_walk.specs.Limits.{Counts, from_held}
 use Rattle.spec_walk.specs.Walk.{gives}
 use Rattle.spec_walk.specs.Spot.{root}
-use Rattle.spec_expressions.specs.Expression.{Eq, UInt, IsZero, IsOnes, IsFeatureImplemented, Named, Expr, Boolean, Integer, Bits, Name, Not, Binary, Call, Set, Join, Slice, Other, no_exprs, expr}
+use Rattle.spec_expressions.specs.Expression.{And, Or, Implies, Iff, Eq, Ne, Lt, Le, Gt, Ge, Member, op_named, UInt, IsZero, IsOnes, IsFeatureImplemented, Named, Expr, Boolean, Integer, Bits, Name, Not, Binary, Call, Set, Join, Slice, Other, no_exprs, expr}
 use Rattle.spec_expressions.specs.Reading.{expression}
 
 -- what a text is read as, with the counts behind it
@@ -125,6 +125,35 @@ name_with_equals : reads (codes "{\"_type\":\"AST.Identifier\",\"value\":\"a=b\"
 unfolding digits serde_json_on_literals
 name_with_equals = refl
 
+name_with_hash : reads (codes "{\"_type\":\"AST.Identifier\",\"value\":\"a#1\"}") ≡ as_read Other [] 1
+unfolding digits serde_json_on_literals
+name_with_hash = refl
+
+name_with_comma : reads (codes "{\"_type\":\"AST.Identifier\",\"value\":\"a,b\"}") ≡ as_read Other [] 1
+unfolding digits serde_json_on_literals
+name_with_comma = refl
+
+name_with_delete : reads (codes "{\"_type\":\"AST.Identifier\",\"value\":\"a\\u007f\"}") ≡ as_read Other [] 1
+unfolding digits serde_json_on_literals
+name_with_delete = refl
+
+name_beyond_ascii : reads (codes "{\"_type\":\"AST.Identifier\",\"value\":\"\\u00e9\"}") ≡ as_read Other [] 1
+unfolding digits serde_json_on_literals
+name_beyond_ascii = refl
+
+name_absent : reads (codes "{\"_type\":\"AST.Identifier\"}") ≡ as_read Other [] 1
+unfolding digits serde_json_on_literals
+name_absent = refl
+
+name_of_number : reads (codes "{\"_type\":\"AST.Identifier\",\"value\":1}") ≡ as_read Other [] 1
+unfolding digits serde_json_on_literals
+name_of_number = refl
+
+-- a name that is met twice is held once
+name_twice : reads (codes "{\"_type\":\"AST.BinaryOp\",\"op\":\"==\",\"left\":{\"_type\":\"AST.Identifier\",\"value\":\"a\"},\"right\":{\"_type\":\"AST.Identifier\",\"value\":\"a\"}}") ≡ as_read (Binary Eq (Name (codes "a")) (Name (codes "a"))) (codes "a" ∷ []) 3
+unfolding digits serde_json_on_literals
+name_twice = refl
+
 -- ---- operators
 
 negated : reads (codes "{\"_type\":\"AST.UnaryOp\",\"op\":\"!\",\"expr\":{\"_type\":\"AST.Bool\",\"value\":true}}") ≡ as_read (Not (Boolean true)) [] 2
@@ -172,6 +201,63 @@ right_text : reads (codes "{\"_type\":\"AST.BinaryOp\",\"op\":\"&&\",\"left\":{\
 unfolding digits serde_json_on_literals
 right_text = refl
 
+-- the text of each operator of two sides
+op_and : op_named (codes "&&") ≡ Some And
+op_and = refl
+
+op_or : op_named (codes "||") ≡ Some Or
+op_or = refl
+
+op_implies : op_named (codes "-->") ≡ Some Implies
+op_implies = refl
+
+op_iff : op_named (codes "<->") ≡ Some Iff
+op_iff = refl
+
+op_equal : op_named (codes "==") ≡ Some Eq
+op_equal = refl
+
+op_unequal : op_named (codes "!=") ≡ Some Ne
+op_unequal = refl
+
+op_less : op_named (codes "<") ≡ Some Lt
+op_less = refl
+
+op_less_or_equal : op_named (codes "<=") ≡ Some Le
+op_less_or_equal = refl
+
+op_greater : op_named (codes ">") ≡ Some Gt
+op_greater = refl
+
+op_greater_or_equal : op_named (codes ">=") ≡ Some Ge
+op_greater_or_equal = refl
+
+op_in : op_named (codes "IN") ≡ Some Member
+op_in = refl
+
+-- and texts of none
+no_op_single : op_named (codes "&") ≡ None
+no_op_single = refl
+
+no_op_lower : op_named (codes "in") ≡ None
+no_op_lower = refl
+
+no_op_empty : op_named (codes "") ≡ None
+no_op_empty = refl
+
+-- whole constraints: a feature that asks for another, two that exclude each other, and one beside an unknown call
+constraint_implies : reads (codes "{\"_type\":\"AST.BinaryOp\",\"op\":\"-->\",\"left\":{\"_type\":\"AST.Identifier\",\"value\":\"FEAT_PMULL\"},\"right\":{\"_type\":\"AST.Identifier\",\"value\":\"FEAT_AES\"}}") ≡ as_read (Binary Implies (Name (codes "FEAT_PMULL")) (Name (codes "FEAT_AES"))) (codes "FEAT_PMULL" ∷ codes "FEAT_AES" ∷ []) 3
+unfolding digits serde_json_on_literals
+constraint_implies = refl
+
+constraint_excludes : reads (codes "{\"_type\":\"AST.UnaryOp\",\"op\":\"!\",\"expr\":{\"_type\":\"AST.BinaryOp\",\"op\":\"&&\",\"left\":{\"_type\":\"AST.Identifier\",\"value\":\"FEAT_TST\"},\"right\":{\"_type\":\"AST.Identifier\",\"value\":\"FEAT_AES\"}}}") ≡ as_read (Not (Binary And (Name (codes "FEAT_TST")) (Name (codes "FEAT_AES")))) (codes "FEAT_TST" ∷ codes "FEAT_AES" ∷ []) 4
+unfolding digits serde_json_on_literals
+constraint_excludes = refl
+
+constraint_or : reads (codes "{\"_type\":\"AST.BinaryOp\",\"op\":\"||\",\"left\":{\"_type\":\"AST.Identifier\",\"value\":\"FEAT_TST\"},\"right\":{\"_type\":\"AST.Function\",\"name\":\"HaveEL\",\"arguments\":[{\"_type\":\"AST.Identifier\",\"value\":\"EL2\"}]}}") ≡ as_read (Binary Or (Name (codes "FEAT_TST")) (Call (Named (codes "HaveEL")) (expr (Name (codes "EL2")) no_exprs))) (codes "FEAT_TST" ∷ codes "EL2" ∷ codes "HaveEL" ∷ []) 4
+unfolding digits serde_json_on_literals
+constraint_or = refl
+
 -- ---- calls
 
 -- the names of the four functions take no number, and any other's does, behind those of its arguments
@@ -211,6 +297,14 @@ arguments_no_array = refl
 arguments_absent : reads (codes "{\"_type\":\"AST.Function\",\"name\":\"F\"}") ≡ as_read Other [] 1
 unfolding digits serde_json_on_literals
 arguments_absent = refl
+
+function_absent : reads (codes "{\"_type\":\"AST.Function\",\"arguments\":[{\"_type\":\"AST.Identifier\",\"value\":\"a\"}]}") ≡ as_read Other [] 1
+unfolding digits serde_json_on_literals
+function_absent = refl
+
+function_of_number : reads (codes "{\"_type\":\"AST.Function\",\"name\":1,\"arguments\":[{\"_type\":\"AST.Identifier\",\"value\":\"a\"}]}") ≡ as_read Other [] 1
+unfolding digits serde_json_on_literals
+function_of_number = refl
 
 -- ---- sets and joins
 
@@ -283,6 +377,27 @@ slice_of_nothing : reads (codes "{\"_type\":\"AST.SquareOp\",\"arguments\":[{\"_
 unfolding digits serde_json_on_literals
 slice_of_nothing = refl
 
+slice_of_number : reads (codes "{\"_type\":\"AST.SquareOp\",\"var\":1,\"arguments\":[{\"_type\":\"AST.Integer\",\"value\":3}]}") ≡ as_read Other [] 1
+unfolding digits serde_json_on_literals
+slice_of_number = refl
+
+slice_to_number : reads (codes "{\"_type\":\"AST.SquareOp\",\"var\":{\"_type\":\"AST.Identifier\",\"value\":\"x\"},\"arguments\":[{\"_type\":\"AST.Slice\",\"left\":{\"_type\":\"AST.Integer\",\"value\":3},\"right\":1}]}") ≡ as_read Other [] 1
+unfolding digits serde_json_on_literals
+slice_to_number = refl
+
+slice_from_text : reads (codes "{\"_type\":\"AST.SquareOp\",\"var\":{\"_type\":\"AST.Identifier\",\"value\":\"x\"},\"arguments\":[{\"_type\":\"AST.Slice\",\"left\":\"3\",\"right\":{\"_type\":\"AST.Integer\",\"value\":1}}]}") ≡ as_read Other [] 1
+unfolding digits serde_json_on_literals
+slice_from_text = refl
+
+-- `arguments` that are absent, or a slice in place of an array
+square_alone : reads (codes "{\"_type\":\"AST.SquareOp\",\"var\":{\"_type\":\"AST.Identifier\",\"value\":\"x\"}}") ≡ as_read Other [] 1
+unfolding digits serde_json_on_literals
+square_alone = refl
+
+arguments_are_slice : reads (codes "{\"_type\":\"AST.SquareOp\",\"var\":{\"_type\":\"AST.Identifier\",\"value\":\"x\"},\"arguments\":{\"_type\":\"AST.Slice\",\"left\":{\"_type\":\"AST.Integer\",\"value\":3},\"right\":{\"_type\":\"AST.Integer\",\"value\":1}}}") ≡ as_read Other [] 1
+unfolding digits serde_json_on_literals
+arguments_are_slice = refl
+
 -- an `AST.Slice` elsewhere is Other, also as the end of another
 slice_outside : reads (codes "{\"_type\":\"AST.Slice\",\"left\":{\"_type\":\"AST.Integer\",\"value\":3},\"right\":{\"_type\":\"AST.Integer\",\"value\":1}}") ≡ as_read Other [] 1
 unfolding digits serde_json_on_literals
@@ -291,6 +406,18 @@ slice_outside = refl
 slice_in_slice : reads (codes "{\"_type\":\"AST.SquareOp\",\"var\":{\"_type\":\"AST.Identifier\",\"value\":\"x\"},\"arguments\":[{\"_type\":\"AST.Slice\",\"left\":{\"_type\":\"AST.Slice\",\"left\":{\"_type\":\"AST.Integer\",\"value\":3},\"right\":{\"_type\":\"AST.Integer\",\"value\":2}},\"right\":{\"_type\":\"AST.Integer\",\"value\":1}}]}") ≡ as_read (Slice (Name (codes "x")) Other (Integer (pos 1))) (codes "x" ∷ []) 4
 unfolding digits serde_json_on_literals
 slice_in_slice = refl
+
+slice_as_var : reads (codes "{\"_type\":\"AST.SquareOp\",\"var\":{\"_type\":\"AST.Slice\",\"left\":{\"_type\":\"AST.Integer\",\"value\":3},\"right\":{\"_type\":\"AST.Integer\",\"value\":1}},\"arguments\":[{\"_type\":\"AST.Integer\",\"value\":0}]}") ≡ as_read (Slice Other (Integer (pos 0)) (Integer (pos 0))) [] 3
+unfolding digits serde_json_on_literals
+slice_as_var = refl
+
+slice_as_argument : reads (codes "{\"_type\":\"AST.Function\",\"name\":\"UInt\",\"arguments\":[{\"_type\":\"AST.Slice\",\"left\":{\"_type\":\"AST.Integer\",\"value\":3},\"right\":{\"_type\":\"AST.Integer\",\"value\":1}}]}") ≡ as_read (Call UInt (expr Other no_exprs)) [] 2
+unfolding digits serde_json_on_literals
+slice_as_argument = refl
+
+slice_as_element : reads (codes "{\"_type\":\"AST.Set\",\"values\":[{\"_type\":\"AST.Slice\",\"left\":{\"_type\":\"AST.Integer\",\"value\":3},\"right\":{\"_type\":\"AST.Integer\",\"value\":1}},{\"_type\":\"AST.Integer\",\"value\":0}]}") ≡ as_read (Set (expr Other (expr (Integer (pos 0)) no_exprs))) [] 3
+unfolding digits serde_json_on_literals
+slice_as_element = refl
 
 -- ---- Other, and what is no object
 
@@ -305,6 +432,11 @@ kind_of_number = refl
 unlisted_kind : reads (codes "{\"_type\":\"AST.Bar\",\"value\":true}") ≡ as_read Other [] 1
 unfolding digits serde_json_on_literals
 unlisted_kind = refl
+
+-- of two kinds the last counts
+kind_doubled : reads (codes "{\"_type\":\"AST.Integer\",\"value\":true,\"_type\":\"AST.Bool\"}") ≡ as_read (Boolean true) [] 1
+unfolding digits serde_json_on_literals
+kind_doubled = refl
 
 -- a part that is Other is kept inside its owner
 other_kept : reads (codes "{\"_type\":\"AST.UnaryOp\",\"op\":\"!\",\"expr\":{\"_type\":\"AST.Bar\",\"value\":{\"_type\":\"AST.Identifier\",\"value\":\"a\"}}}") ≡ as_read (Not Other) [] 2

@@ -1,7 +1,7 @@
 -- Worked values: each kind of expression where it is defined, and where it is Open.
 use Rattle.std.specs.Prelude.{◌≡◌, ℕ, pos, negsuc, List, [], ◌∷◌, ◌++◌, replicate, Bool, true, false, Some, None, codes, refl}
 use Rattle.spec_bits.specs.Pattern.{Zero, One, Either}
-use Rattle.spec_expressions.specs.Expression.{And, Or, Implies, Iff, Eq, Ne, Lt, Le, Gt, Ge, Member, UInt, IsZero, IsOnes, IsFeatureImplemented, Named, Expr, Boolean, Integer, Bits, Name, Not, Binary, Call, Set, Join, Slice, Other, Exprs, no_exprs, exprs_of}
+use Rattle.spec_expressions.specs.Expression.{And, Or, Implies, Iff, Eq, Ne, Lt, Le, Gt, Ge, Member, UInt, IsZero, IsOnes, IsFeatureImplemented, Named, Expr, Boolean, Integer, Bits, Name, Not, Binary, Call, Set, Join, Slice, Other, no_exprs, exprs_of}
 use Rattle.spec_expressions.specs.Truth.{Truth, Yes, No, Open}
 use Rattle.spec_expressions.specs.Scope.{Field, Flag, Parameter, Configuration}
 use Rattle.spec_expressions.specs.Operations.{Value, ATruth, ANumber, APattern}
@@ -36,9 +36,6 @@ no = Boolean false
 
 abbrev unknown : Expr
 unknown = Other
-
-abbrev one_of : Expr → Exprs
-one_of e = exprs_of (e ∷ [])
 
 abbrev int : ℕ → Expr
 int n = Integer (pos n)
@@ -288,6 +285,12 @@ member_open = refl
 member_beside_open : truth_in (Binary Member (Name (codes "op")) (Set (exprs_of (unknown ∷ Bits (One ∷ One ∷ One ∷ []) ∷ [])))) ≡ Yes
 member_beside_open = refl
 
+member_of_numbers : truth_in (Binary Member (int 3) (Set (exprs_of (int 1 ∷ int 3 ∷ [])))) ≡ Yes
+member_of_numbers = refl
+
+no_member_of_numbers : truth_in (Binary Member (Integer (negsuc 2)) (Set (exprs_of (int 1 ∷ int 3 ∷ [])))) ≡ No
+no_member_of_numbers = refl
+
 -- nothing is in an empty Set
 member_of_empty : truth_in (Binary Member unknown (Set no_exprs)) ≡ No
 member_of_empty = refl
@@ -319,7 +322,7 @@ unsigned_of_number = refl
 unsigned_of_two : worth (Call UInt (exprs_of (Name (codes "Rn") ∷ Name (codes "op") ∷ []))) ≡ ATruth Open
 unsigned_of_two = refl
 
-unsigned_of_none : worth (Call UInt (exprs_of ([]))) ≡ ATruth Open
+unsigned_of_none : worth (Call UInt no_exprs) ≡ ATruth Open
 unsigned_of_none = refl
 
 zero : truth_in (Call IsZero (exprs_of (Bits (replicate 128 Zero) ∷ []))) ≡ Yes
@@ -330,6 +333,18 @@ not_zero = refl
 
 zero_of_x : truth_in (Call IsZero (exprs_of (Bits (One ∷ Either ∷ []) ∷ []))) ≡ Open
 zero_of_x = refl
+
+zero_of_number : truth_in (Call IsZero (exprs_of (int 0 ∷ []))) ≡ Open
+zero_of_number = refl
+
+zero_of_truth : truth_in (Call IsZero (exprs_of (no ∷ []))) ≡ Open
+zero_of_truth = refl
+
+zero_of_none : truth_in (Call IsZero no_exprs) ≡ Open
+zero_of_none = refl
+
+zero_of_two : truth_in (Call IsZero (exprs_of (Bits (Zero ∷ []) ∷ Bits (Zero ∷ []) ∷ []))) ≡ Open
+zero_of_two = refl
 
 ones : truth_in (Call IsOnes (exprs_of (Name (codes "op") ∷ []))) ≡ Yes
 ones = refl
@@ -342,6 +357,12 @@ ones_of_x = refl
 
 ones_of_number : truth_in (Call IsOnes (exprs_of (int 1 ∷ []))) ≡ Open
 ones_of_number = refl
+
+ones_of_none : truth_in (Call IsOnes no_exprs) ≡ Open
+ones_of_none = refl
+
+ones_of_two : truth_in (Call IsOnes (exprs_of (Bits (One ∷ []) ∷ Bits (One ∷ []) ∷ []))) ≡ Open
+ones_of_two = refl
 
 -- a field does not hide the feature
 implemented : truth_in (Call IsFeatureImplemented (exprs_of (Name (codes "Rn") ∷ []))) ≡ Yes
@@ -359,6 +380,9 @@ implemented_of_truth = refl
 implemented_of_two : truth_in (Call IsFeatureImplemented (exprs_of (Name (codes "A") ∷ Name (codes "A") ∷ []))) ≡ Open
 implemented_of_two = refl
 
+implemented_of_none : truth_in (Call IsFeatureImplemented no_exprs) ≡ Open
+implemented_of_none = refl
+
 named_function : truth_in (Call (Named (codes "HaveEL")) (exprs_of (Name (codes "EL2") ∷ []))) ≡ Open
 named_function = refl
 
@@ -368,20 +392,20 @@ named_as_a_function = refl
 -- ---- joins
 
 -- the first part is highest
-joined : worth (Join (exprs_of (Name (codes "op") ∷ Bits (Zero ∷ Either ∷ []) ∷ []))) ≡ APattern (One ∷ One ∷ One ∷ Zero ∷ Either ∷ [])
-joined = refl
+join : worth (Join (exprs_of (Name (codes "op") ∷ Bits (Zero ∷ Either ∷ []) ∷ []))) ≡ APattern (One ∷ One ∷ One ∷ Zero ∷ Either ∷ [])
+join = refl
 
-joined_widest : worth (Join (exprs_of (Bits (replicate 127 One) ∷ Bits (Zero ∷ []) ∷ []))) ≡ APattern (replicate 127 One ++ Zero ∷ [])
-joined_widest = refl
+join_widest : worth (Join (exprs_of (Bits (replicate 127 One) ∷ Bits (Zero ∷ []) ∷ []))) ≡ APattern (replicate 127 One ++ Zero ∷ [])
+join_widest = refl
 
-joined_too_wide : worth (Join (exprs_of (Bits (replicate 128 One) ∷ Bits (Zero ∷ []) ∷ []))) ≡ ATruth Open
-joined_too_wide = refl
+join_too_wide : worth (Join (exprs_of (Bits (replicate 128 One) ∷ Bits (Zero ∷ []) ∷ []))) ≡ ATruth Open
+join_too_wide = refl
 
-joined_of_none : worth (Join (exprs_of ([]))) ≡ ATruth Open
-joined_of_none = refl
+join_of_none : worth (Join no_exprs) ≡ ATruth Open
+join_of_none = refl
 
-joined_with_number : worth (Join (exprs_of (Name (codes "op") ∷ int 1 ∷ []))) ≡ ATruth Open
-joined_with_number = refl
+join_with_number : worth (Join (exprs_of (Name (codes "op") ∷ int 1 ∷ []))) ≡ ATruth Open
+join_with_number = refl
 
 -- ---- slices
 
