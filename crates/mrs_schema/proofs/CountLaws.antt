@@ -23,7 +23,7 @@ use Rattle.mrs_schema.specs.Drafted.{is_leaf_kind, is_alias_kind, counts}
 -- ---- counts, by the nodes that are put
 
 abbrev put_counts : List (List ℕ) → ℕ → ℕ → ℕ → Counts
-put_counts names nodes leaves aliases = record { held = names; nodes = nodes; leaves = leaves; aliases = aliases }
+put_counts names nodes leaves aliases = record { held = names; nodes = nodes; leaves = leaves; aliases = aliases; expressions = 0 }
 
 leaf_kind : (kind : Kind) → is_leaf_kind (kind_of kind) ≡ is_leaf kind
 leaf_kind Set = refl

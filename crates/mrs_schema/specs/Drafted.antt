@@ -30,7 +30,7 @@ is_alias_kind kind.Instance = false
 
 -- the counts of a walk that has put so much
 abbrev pub counts : Drafted → Counts
-counts d = record { held = d.names; nodes = length d.nodes; leaves = count_by (λ p. is_leaf_kind p.own.kind) d.nodes; aliases = count_by (λ p. is_alias_kind p.own.kind) d.nodes }
+counts d = record { held = d.names; nodes = length d.nodes; leaves = count_by (λ p. is_leaf_kind p.own.kind) d.nodes; aliases = count_by (λ p. is_alias_kind p.own.kind) d.nodes; expressions = 0 }
 
 -- ---- nodes
 

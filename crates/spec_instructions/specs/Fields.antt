@@ -3,14 +3,9 @@ use Rattle.std.specs.Prelude.{◌≡◌, ◌≢◌, ◌↔◌, ℕ, ◌+◌, ◌
 use Rattle.std.specs.List.{list_any}
 use Rattle.spec_bits.specs.Pattern.{Digit, Either, value_at, joined}
 use Rattle.spec_bits.specs.Item.{Item, fixed_digits, fixes}
+pub use Rattle.spec_expressions.specs.Scope.{Field}
 use Rattle.spec_instructions.specs.Tree.{Own}
 use Rattle.spec_instructions.specs.Paths.{path_items}
-
--- a field: its name, its lowest bit and how many bits it has
-pub record Field : Type 0 where
-  pub name : List ℕ
-  pub start : ℕ
-  pub width : ℕ
 
 -- an item has that name
 abbrev pub has_text : List ℕ → Option (List ℕ) → Bool

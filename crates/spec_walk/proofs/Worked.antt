@@ -3,7 +3,7 @@ use Rattle.std.specs.Prelude.{◌≡◌, ℕ, List, [], ◌∷◌, ◌++◌, len
 use Rattle.std.specs.Fmt.{digits}
 use Rattle.std.specs.List.{list_any}
 use Rattle.spec_walk.specs.Pointer.{under, element}
-use Rattle.spec_walk.specs.Event.{ANode, ALeaf, AnAlias, Why, WrongShape, TooMany, Fault, Name, OneMore, Wrong}
+use Rattle.spec_walk.specs.Event.{ANode, ALeaf, AnAlias, AnExpression, Why, WrongShape, TooMany, Fault, Name, OneMore, Wrong}
 use Rattle.spec_walk.specs.Limits.{Counts, from_held, judged}
 
 -- ---- places
@@ -34,7 +34,11 @@ fault place why = Err (record { at = place; why = why })
 
 -- these texts are held, and so many nodes, leaves and aliases were met
 abbrev counts : List (List ℕ) → ℕ → ℕ → ℕ → Counts
-counts held nodes leaves aliases = record { held = held; nodes = nodes; leaves = leaves; aliases = aliases }
+counts held nodes leaves aliases = record { held = held; nodes = nodes; leaves = leaves; aliases = aliases; expressions = 0 }
+
+-- and so many expressions alone
+abbrev expressions : ℕ → Counts
+expressions n = record (from_held []) { expressions = n }
 
 no_event : judged [] (counts [] 1 2 3) ≡ Ok (counts [] 1 2 3)
 no_event = refl
@@ -57,7 +61,16 @@ last_node = refl
 one_node_too_many : judged (OneMore ANode at ∷ []) (counts [] 1048576 0 0) ≡ fault at TooMany
 one_node_too_many = refl
 
+last_expression : judged (OneMore AnExpression at ∷ []) (expressions 4194303) ≡ Ok (expressions 4194304)
+last_expression = refl
+
+one_expression_too_many : judged (OneMore AnExpression at ∷ []) (expressions 4194304) ≡ fault at TooMany
+one_expression_too_many = refl
+
 -- each limit counts its own thing
+expression_beside_nodes : judged (OneMore AnExpression at ∷ []) (counts [] 1048576 65536 65536) ≡ Ok (record (counts [] 1048576 65536 65536) { expressions = 1 })
+expression_beside_nodes = refl
+
 leaf_beside_aliases : judged (OneMore ALeaf at ∷ []) (counts [] 0 0 65536) ≡ Ok (counts [] 0 1 65536)
 leaf_beside_aliases = refl
 

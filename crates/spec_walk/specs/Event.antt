@@ -25,6 +25,7 @@ pub data Thing : Type 0 where
   ANode : Thing
   ALeaf : Thing
   AnAlias : Thing
+  AnExpression : Thing
 
 pub data Event : Type 0 where
   -- the object that has the text as its member, and the text

@@ -3,4 +3,5 @@ pub mod Event
 pub mod Limits
 pub mod Walk
 pub mod Spot
+pub mod Name
 pub mod Descend

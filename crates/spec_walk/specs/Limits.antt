@@ -1,20 +1,21 @@
 -- The first fault of a walk, with the limits on names and on counted things.
 use Rattle.std.specs.Prelude.{ℕ, ◌+◌, List, [], ◌∷◌, ◌++◌, length, nat_le, bytes_eq, Result, Ok, Err, if◌then◌else◌}
 use Rattle.std.specs.List.{list_any}
-use Rattle.spec_walk.specs.Event.{ANode, ALeaf, AnAlias, TooMany, Fault, Event, Name, OneMore, Wrong}
+use Rattle.spec_walk.specs.Event.{ANode, ALeaf, AnAlias, AnExpression, TooMany, Fault, Event, Name, OneMore, Wrong}
 
--- the texts that have a number, in order of their numbers, and how many nodes, leaves and aliases were met
+-- the texts that have a number, in order of their numbers, and how many nodes, leaves, aliases and expressions were met
 pub record Counts : Type 0 where
   pub held : List (List ℕ)
   pub nodes : ℕ
   pub leaves : ℕ
   pub aliases : ℕ
+  pub expressions : ℕ
 
 -- before a walk, with these texts held
 abbrev pub from_held : List (List ℕ) → Counts
-from_held held = record { held = held; nodes = 0; leaves = 0; aliases = 0 }
+from_held held = record { held = held; nodes = 0; leaves = 0; aliases = 0; expressions = 0 }
 
--- the most names, nodes, leaves and aliases
+-- the most names, nodes, leaves, aliases and expressions
 abbrev pub name_limit : ℕ
 name_limit = 4194304
 
@@ -26,6 +27,9 @@ leaf_limit = 65536
 
 abbrev pub alias_limit : ℕ
 alias_limit = 65536
+
+abbrev pub expression_limit : ℕ
+expression_limit = 4194304
 
 -- one more, unless the limit is reached
 abbrev pub counted_up : ℕ → ℕ → List ℕ → Counts → Result Counts Fault
@@ -42,6 +46,7 @@ after (Name at text) c = named at text c
 after (OneMore ANode at) c = counted_up node_limit c.nodes at (record c { nodes = c.nodes + 1 })
 after (OneMore ALeaf at) c = counted_up leaf_limit c.leaves at (record c { leaves = c.leaves + 1 })
 after (OneMore AnAlias at) c = counted_up alias_limit c.aliases at (record c { aliases = c.aliases + 1 })
+after (OneMore AnExpression at) c = counted_up expression_limit c.expressions at (record c { expressions = c.expressions + 1 })
 after (Wrong f) c = Err f
 
 -- what a step gives, or the fault before it

@@ -21,6 +21,12 @@ events (Done x) = []
 events (Stop f) = Wrong f ∷ []
 events (Meet e w) = e ∷ events w
 
+-- the value at the end, where no fault ends the walk; limits are not looked at
+abbrev pub value : {A : Type 0} → Walk A → Option A
+value (Done x) = Some x
+value (Stop f) = None
+value (Meet e w) = value w
+
 -- the value with the counts behind all events, or the first fault: the one that ends the walk, or the first that passes a limit
 abbrev pub gives : {A : Type 0} → Walk A → Counts → Result (A × Counts) Fault
 gives (Done x) c = Ok (x, c)

@@ -1,0 +1,11 @@
+pub mod Expression
+pub mod Kind
+pub mod Shape
+pub mod Reading
+pub mod Truth
+pub mod Scope
+pub mod Digits
+pub mod Operations
+pub mod Value
+pub mod Known
+pub mod Laws
