@@ -1,0 +1,11 @@
+pub mod Trails
+pub mod Turns
+pub mod Measure
+pub mod Firsts
+pub mod Kept
+pub mod Membership
+pub mod Exact
+pub mod Teaching
+pub mod Jumps
+pub mod Taught
+pub mod Beyond

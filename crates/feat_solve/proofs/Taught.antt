@@ -1,0 +1,107 @@
+-- The state of the search after a conflict has taught a step.
+use Rattle.std.proofs.Common.{◌≡◌, ℕ, suc, ◌+◌, ◌<◌, ◌≤◌, ℤ, neg_ℤ, Bool, true, false, cond, ◌||◌, List, [], ◌∷◌, ◌++◌, map, length, Some, None, refl, sym, ap, ◌∙◌, subst, ⊎_elim, arith}
+use Rattle.std.specs.List.{AllByRecursion}
+use Rattle.std.specs.Ordering.{int_eq}
+use Rattle.std.proofs.lemmas.Bool.{false≢true, or_cases, or_left, or_right}
+use Rattle.std.proofs.lemmas.Bool.Decides.{Decides-int_eq}
+use Rattle.std.proofs.lemmas.List.{length-append, length-map}
+use Rattle.std.proofs.Math.Seq.{get_or-append_seam}
+use Rattle.spec_refutation.specs.Derivation.{Step, has}
+use Rattle.spec_refutation.specs.Refutation.{EachFollows}
+use Rattle.spec_refutation.specs.Reading.{IsClause}
+use Rattle.feat_solve.specs.Trail.{Entry, decisions, below, last_decided, IsTrail, Conflicts, weight, IsState}
+use Rattle.feat_solve.specs.Learnt.{causes, needed_decisions, learnt, settled}
+use Rattle.spec_refutation.specs.First.{IsRefutation}
+use Rattle.feat_solve.proofs.Turns.{IsLiteral-neg}
+use Rattle.feat_solve.proofs.Kept.{known_of, known_more, length_more, follows_more, all_more}
+use Rattle.feat_solve.proofs.Teaching.{learnt_derives}
+use Rattle.feat_solve.proofs.Jumps.{jump_closed, jump_turned}
+
+needed_decided : (known : List (List ℤ)) (N : List ℤ) (es : List Entry) (x : ℤ)
+    → has (needed_decisions known N es) x ≡ true → has (decisions es) x ≡ true
+needed_decided known N [] x h = h
+needed_decided known N ((l, None) ∷ es) x h = go (has N l) h (needed_decided known N es x)
+  where
+    go : (b : Bool) → has (cond b (l ∷ needed_decisions known N es) (needed_decisions known N es)) x ≡ true
+        → (has (needed_decisions known N es) x ≡ true → has (decisions es) x ≡ true) → (int_eq x l || has (decisions es) x) ≡ true
+    go true h ih = ⊎_elim (λ q. or_left (int_eq x l) (has (decisions es) x) q) (λ q. or_right (int_eq x l) (has (decisions es) x) (ih q)) (or_cases (int_eq x l) (has (needed_decisions known N es) x) h)
+    go false h ih = or_right (int_eq x l) (has (decisions es) x) (ih h)
+needed_decided known N ((l, Some r) ∷ es) x h = go (has N l) h (needed_decided known (N ++ causes known r) es x) (needed_decided known N es x)
+  where
+    go : (b : Bool) → has (cond b (needed_decisions known (N ++ causes known r) es) (needed_decisions known N es)) x ≡ true
+        → (has (needed_decisions known (N ++ causes known r) es) x ≡ true → has (decisions es) x ≡ true)
+        → (has (needed_decisions known N es) x ≡ true → has (decisions es) x ≡ true) → has (decisions es) x ≡ true
+    go true h more same = more h
+    go false h more same = same h
+
+needed_within : (vars : ℕ) (known k : List (List ℤ)) (N : List ℤ) (es : List Entry) → IsTrail vars k es
+    → IsClause vars (map neg_ℤ (needed_decisions known N es))
+needed_within vars known k N [] t = tt
+needed_within vars known k N ((l, None) ∷ es) t = go (has N l) (needed_within vars known k N es t.1)
+  where
+    go : (b : Bool) → IsClause vars (map neg_ℤ (needed_decisions known N es))
+        → IsClause vars (map neg_ℤ (cond b (l ∷ needed_decisions known N es) (needed_decisions known N es)))
+    go true ih = (IsLiteral-neg vars l t.0.within, ih)
+    go false ih = ih
+needed_within vars known k N ((l, Some r) ∷ es) t = go (has N l) (needed_within vars known k (N ++ causes known r) es t.1) (needed_within vars known k N es t.1)
+  where
+    go : (b : Bool) → IsClause vars (map neg_ℤ (needed_decisions known (N ++ causes known r) es)) → IsClause vars (map neg_ℤ (needed_decisions known N es))
+        → IsClause vars (map neg_ℤ (cond b (needed_decisions known (N ++ causes known r) es) (needed_decisions known N es)))
+    go true p q = p
+    go false p q = q
+
+is_empty : (ds : List ℤ) → ((x : ℤ) → has ds x ≡ false) → ds ≡ []
+is_empty [] h = refl
+is_empty (d ∷ ds) h = absurd (false≢true (sym (h d) ∙ or_left (int_eq d d) (has ds d) ((Decides-int_eq d d).1 refl)))
+
+module _ (vars : ℕ) (clauses : List (List ℤ)) (steps : List Step) (es : List Entry) (h : ℕ)
+    (state : IsState vars clauses steps es) (conflict : Conflicts (known_of clauses steps) es h)
+    (few : length clauses + length (steps ++ (learnt (known_of clauses steps) es h ∷ [])) ≤ 18446744073709551615) where
+  each : EachFollows clauses (steps ++ (learnt (known_of clauses steps) es h ∷ [])) (length (steps ++ (learnt (known_of clauses steps) es h ∷ [])))
+  each = follows_more clauses steps (learnt (known_of clauses steps) es h) state.follow (learnt_derives vars (known_of clauses steps) es state.trail h conflict)
+
+  all_within : AllByRecursion (λ (s : Step). IsClause vars s.0) (steps ++ (learnt (known_of clauses steps) es h ∷ []))
+  all_within = all_more (λ (s : Step). IsClause vars s.0) steps (learnt (known_of clauses steps) es h) state.within
+      (needed_within vars (known_of clauses steps) (known_of clauses steps) (causes (known_of clauses steps) h) es state.trail)
+
+  pub taught_closed : last_decided (settled (learnt (known_of clauses steps) es h).0 es es) ≡ None
+      → IsRefutation vars clauses (steps ++ (learnt (known_of clauses steps) es h ∷ []))
+  taught_closed none =
+      let known = known_of clauses steps in
+      let ds = needed_decisions known (causes known h) es in
+      record {
+        refutes = record {
+          each = each;
+          empty = (
+            length steps,
+            omega (arith, length_more steps (learnt known es h)),
+            ap (λ (s : Step). s.0) (get_or-append_seam steps (learnt known es h) [] ([], []))
+                ∙ ap (map neg_ℤ) (is_empty ds (jump_closed vars known es ds state.trail (needed_decided known (causes known h) es) none)),
+          );
+        };
+        within = all_within;
+        few = few;
+      }
+
+  pub taught_turned : (d : ℤ) → last_decided (settled (learnt (known_of clauses steps) es h).0 es es) ≡ Some d → (n : ℕ)
+      → n ≡ length clauses + length (steps ++ (learnt (known_of clauses steps) es h ∷ []))
+      → let c = (learnt (known_of clauses steps) es h).0 in
+      let low = below (settled c es es) in
+      IsState vars clauses (steps ++ (learnt (known_of clauses steps) es h ∷ [])) ((neg_ℤ d, Some n) ∷ settled c low low)
+      × (weight vars es < weight vars ((neg_ℤ d, Some n) ∷ settled c low low))
+  taught_turned d last n e =
+      let known = known_of clauses steps in
+      let ds = needed_decisions known (causes known h) es in
+      let low = below (settled (map neg_ℤ ds) es es) in
+      let len : length known ≡ length clauses + length steps = omega (arith, length-append clauses (map (λ (s : Step). s.0) steps), length-map steps (λ (s : Step). s.0)) in
+      let num : n ≡ suc (length known) = omega (arith, e, len, length_more steps (learnt known es h)) in
+      let t = jump_turned vars known es ds state.trail (needed_decided known (causes known h) es) d last n num in
+      let P : List (List ℤ) → Type 0 = λ k. IsTrail vars k ((neg_ℤ d, Some n) ∷ settled (map neg_ℤ ds) low low) in (
+        record {
+          trail = subst P (sym (known_more clauses steps (learnt known es h))) t.0;
+          follow = each;
+          within = all_within;
+          few = few;
+        },
+        t.1,
+      )

@@ -1,0 +1,17 @@
+//! A solver of clauses: the first list of states that satisfies them, or a log that refutes them.
+#![tactic(auto)]
+
+mod answers;
+mod entries;
+mod learning;
+mod looking;
+mod reach;
+mod search;
+mod states;
+mod trail;
+
+pub use answers::Answer;
+pub use search::solve;
+
+#[cfg(test)]
+mod tests;
