@@ -2,8 +2,9 @@
 use Rattle.std.proofs.Common.{◌≡◌, ℕ, zero, suc, ◌+◌, ◌-◌, ◌^◌, ◌<◌, ◌≤◌, ℤ, pos, neg_ℤ, Bool, true, false, cond, not, ◌⊎◌, inl, inr, List, [], ◌∷◌, ◌++◌, map, take, length, Option, Some, None, refl, sym, ap, ◌∙◌, subst, ⊎_elim, append_assoc, arith}
 use Rattle.std.specs.Prelude.{slice_get}
 use Rattle.std.specs.List.{list_any, list_all, AllByRecursion}
-use Rattle.std.specs.Option.{option_and_then}
+use Rattle.std.specs.Option.{option_map_or, option_and_then}
 use Rattle.std.specs.Ordering.{int_eq}
+use Rattle.std.proofs.lemmas.Bool.{false≢true}
 use Rattle.std.proofs.lemmas.Option.{cond_some}
 use Rattle.std.proofs.lemmas.List.{length-append, map-append, take-append-le, get_or_append_left}
 use Rattle.std.proofs.Math.Seq.{take-append_seam, get_or-append_seam}
@@ -13,8 +14,8 @@ use Rattle.spec_refutation.specs.Refutation.{clauses_before, step_at, follows, E
 use Rattle.spec_refutation.specs.Reading.{IsLiteral, IsClause}
 use Rattle.spec_refutation.proofs.Sound.{steps_true}
 use Rattle.spec_refutation.specs.First.{IsFirst}
-use Rattle.feat_solve.specs.Trail.{Entry, literals, valued, weight, IsState, Complete, AreStates}
-use Rattle.feat_solve.proofs.Turns.{trail_decided, trail_forced}
+use Rattle.feat_solve.specs.Trail.{Entry, literals, valued, Conflicts, weight, IsState, Complete, AreStates}
+use Rattle.feat_solve.proofs.Turns.{numbered_more, trail_decided, trail_forced}
 use Rattle.feat_solve.proofs.Measure.{pushed, bounded}
 use Rattle.feat_solve.proofs.Firsts.{first_is}
 
@@ -154,3 +155,13 @@ pub measure_falls : (vars : ℕ) (clauses : List (List ℤ)) (steps : List Step)
     → (vars + 1) ^ (vars + 1) - weight vars new < (vars + 1) ^ (vars + 1) - weight vars old
 measure_falls vars clauses steps old new state grows =
     omega (arith, grows, bounded vars (known_of clauses steps) new state.trail)
+
+-- a clause that is falsified is one of all that are known
+pub conflict_known : (clauses : List (List ℤ)) (steps : List Step) (es : List Entry) (h : ℕ)
+    → option_map_or (falsified (literals es)) (clause_numbered clauses h) false ≡ true → Conflicts (known_of clauses steps) es h
+conflict_known clauses steps es h e = go (clause_numbered clauses h) refl e
+  where
+    go : (o : Option (List ℤ)) → clause_numbered clauses h ≡ o → option_map_or (falsified (literals es)) o false ≡ true
+        → Conflicts (known_of clauses steps) es h
+    go None is e = absurd (false≢true e)
+    go (Some c) is e = ap (λ o. option_map_or (falsified (literals es)) o false) (numbered_more clauses (map (λ (s : Step). s.0) steps) h c is) ∙ e

@@ -9,3 +9,4 @@ pub mod Teaching
 pub mod Jumps
 pub mod Taught
 pub mod Beyond
+pub mod Tabled

@@ -9,9 +9,10 @@ use Rattle.std.proofs.Math.Seq.{get_or-append_seam}
 use Rattle.spec_refutation.specs.Derivation.{Step, has}
 use Rattle.spec_refutation.specs.Refutation.{EachFollows}
 use Rattle.spec_refutation.specs.Reading.{IsClause}
-use Rattle.feat_solve.specs.Trail.{Entry, decisions, below, last_decided, IsTrail, Conflicts, weight, IsState}
+use Rattle.feat_solve.specs.Trail.{Entry, literals, decisions, below, last_decided, IsTrail, Conflicts, weight, IsState}
 use Rattle.feat_solve.specs.Learnt.{causes, needed_decisions, learnt, settled}
 use Rattle.spec_refutation.specs.First.{IsRefutation}
+use Rattle.feat_solve.proofs.Trails.{unvalued_not}
 use Rattle.feat_solve.proofs.Turns.{IsLiteral-neg}
 use Rattle.feat_solve.proofs.Kept.{known_of, known_more, length_more, follows_more, all_more}
 use Rattle.feat_solve.proofs.Teaching.{learnt_derives}
@@ -105,3 +106,47 @@ module _ (vars : ℕ) (clauses : List (List ℤ)) (steps : List Step) (es : List
         },
         t.1,
       )
+
+-- The same of what a turn computes: the step, the steps with it, the trail as its levels are taken back, and the
+-- literal that is turned round, with its reason's number.
+module _ (vars : ℕ) (clauses : List (List ℤ)) (steps : List Step) (es : List Entry) (h : ℕ)
+    (state : IsState vars clauses steps es) (conflict : Conflicts (known_of clauses steps) es h)
+    (step : Step) (taught : step ≡ learnt (known_of clauses steps) es h)
+    (after : List Step) (grown : after ≡ steps ++ (step ∷ [])) (few : length clauses + length after ≤ 18446744073709551615)
+    (marks : List ℤ) (marked : marks ≡ step.0) (top : List Entry) (settles : top ≡ settled marks es es) where
+  canonical : after ≡ steps ++ (learnt (known_of clauses steps) es h ∷ [])
+  canonical = grown ∙ ap (λ (x : Step). steps ++ (x ∷ [])) taught
+
+  small : length clauses + length (steps ++ (learnt (known_of clauses steps) es h ∷ [])) ≤ 18446744073709551615
+  small = let e : length after ≡ length (steps ++ (learnt (known_of clauses steps) es h ∷ [])) = ap length canonical in omega (arith, few, e)
+
+  marks_are : marks ≡ (learnt (known_of clauses steps) es h).0
+  marks_are = marked ∙ ap (λ (x : Step). x.0) taught
+
+  top_is : top ≡ settled (learnt (known_of clauses steps) es h).0 es es
+  top_is = settles ∙ ap (λ m. settled m es es) marks_are
+
+  pub turn_closes : last_decided top ≡ None → IsRefutation vars clauses after
+  turn_closes none =
+      let P : List Step → Type 0 = λ x. IsRefutation vars clauses x in
+      subst P (sym canonical) (taught_closed vars clauses steps es h state conflict small (ap last_decided (sym top_is) ∙ none))
+
+  pub turn_goes_on : (d : ℤ) → last_decided top ≡ Some d → (low base : List Entry) → low ≡ below top → base ≡ settled marks low low
+      → (l : ℤ) → l ≡ neg_ℤ d → (n : ℕ) → n ≡ length clauses + length after
+      → (has (literals base) l ≡ false)
+      × (IsState vars clauses after ((l, Some n) ∷ base) × (weight vars es < weight vars ((l, Some n) ∷ base)))
+  turn_goes_on d last low base low_is base_is l turned n num =
+      let c = (learnt (known_of clauses steps) es h).0 in
+      let under : low ≡ below (settled c es es) = low_is ∙ ap below top_is in
+      let base_same : base ≡ settled c (below (settled c es es)) (below (settled c es es)) =
+      base_is ∙ ap (λ m. settled m low low) marks_are ∙ ap (λ k. settled c k k) under in
+      let t = taught_turned vars clauses steps es h state conflict small d (ap last_decided (sym top_is) ∙ last) n
+      (num ∙ ap (λ (x : List Step). length clauses + length x) canonical) in
+      let P : List Entry → Type 0 = λ x. IsState vars clauses after ((neg_ℤ d, Some n) ∷ x) × (weight vars es < weight vars ((neg_ℤ d, Some n) ∷ x)) in
+      let Q : List Step → Type 0 = λ x. IsState vars clauses x ((neg_ℤ d, Some n) ∷ settled c (below (settled c es es)) (below (settled c es es)))
+      × (weight vars es < weight vars ((neg_ℤ d, Some n) ∷ settled c (below (settled c es es)) (below (settled c es es)))) in
+      let R : ℤ → Type 0 = λ z. (has (literals base) z ≡ false)
+      × (IsState vars clauses after ((z, Some n) ∷ base) × (weight vars es < weight vars ((z, Some n) ∷ base))) in
+      let s : IsState vars clauses after ((neg_ℤ d, Some n) ∷ base) × (weight vars es < weight vars ((neg_ℤ d, Some n) ∷ base)) =
+      subst P (sym base_same) (subst Q (sym canonical) t) in
+      subst R (sym turned) (unvalued_not base (neg_ℤ d) s.0.trail.0.free, s)

@@ -19,7 +19,7 @@ slice_get-seam [] x = refl
 slice_get-seam (z ∷ xs) x = slice_get-seam xs x
 
 -- a number stays that of its clause as clauses join
-numbered_more : (known more : List (List ℤ)) (h : ℕ) (c : List ℤ) → clause_numbered known h ≡ Some c
+pub numbered_more : (known more : List (List ℤ)) (h : ℕ) (c : List ℤ) → clause_numbered known h ≡ Some c
     → clause_numbered (known ++ more) h ≡ Some c
 numbered_more known more zero c e = absurd cc
 numbered_more known more (suc k) c e = slice_get-append_left known more k c e

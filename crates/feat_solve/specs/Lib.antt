@@ -4,3 +4,4 @@ pub mod Reach
 pub mod Trail
 pub mod Looks
 pub mod Learnt
+pub mod Tables

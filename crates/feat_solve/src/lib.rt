@@ -3,12 +3,17 @@
 
 mod answers;
 mod entries;
+mod flags;
 mod learning;
 mod looking;
+mod marks;
 mod reach;
 mod search;
 mod states;
 mod trail;
+mod variables;
+mod watched;
+mod watches;
 
 pub use answers::Answer;
 pub use search::solve;

@@ -1,18 +1,11 @@
 //! How far the variables of clauses reach.
 
-ghost use Rattle.std.specs.Prelude.{◌≡◌, ◌≤◌, nat_abs};
+ghost use Rattle.std.specs.Prelude.{◌≡◌, ◌≤◌};
 ghost use Rattle.std.specs.List.{AllByRecursion};
 ghost use Rattle.feat_solve.specs.Reach.{reach, reach_of};
 
+use crate::variables::variable;
 use feat_proof::{Clause, Lit};
-
-/// The variable of a literal.
-pub fn variable(literal: Lit) -> u32
-    ensures value { result ≡ nat_abs literal }
-    ensures few { result ≤ 2147483647 }
-{
-    literal.number().unsigned_abs()
-}
 
 /// The greatest variable of a clause, or 0.
 fn greatest(clause: &[Lit]) -> u32

@@ -1,22 +1,23 @@
 //! The search.
 
-ghost use Rattle.std.specs.Prelude.{◌≡◌, ◌≢◌, ◌+◌, ◌<◌, ◌≤◌, ◌↔◌, ℕ, Bool, true, false, map, length, IfOk};
-ghost use Rattle.std.specs.List.{list_any, AllByRecursion};
+ghost use Rattle.std.specs.Prelude.{◌≡◌, ◌≢◌, ◌<◌, ◌≤◌, ◌↔◌, ◌++◌, ℕ, Bool, true, map, length, IfOk};
+ghost use Rattle.std.specs.List.{AllByRecursion};
 ghost use Rattle.spec_refutation.specs.Literals.{satisfies};
-ghost use Rattle.spec_refutation.specs.Derivation.{falsified};
 ghost use Rattle.spec_refutation.specs.Reading.{IsClause};
-ghost use Rattle.feat_solve.specs.Trail.{literals, IsState};
-ghost use Rattle.feat_solve.specs.Looks.{LookIs};
+ghost use Rattle.feat_solve.specs.Trail.{IsState, Conflicts};
 ghost use Rattle.feat_solve.specs.Answers.{TurnIs, Solves, IsRefuted};
-ghost use Rattle.feat_solve.specs.declared.looking.Look.TheVariants as looks;
 
 use crate::answers::Answer;
-use crate::learning::settle;
-use crate::looking::{Look, look_over};
+use crate::learning::{learn, mark_clause, settle};
+use crate::looking::{Look, first_falsified};
+use crate::marks::Marks;
 use crate::reach::greatest_variable;
-use crate::states::{free_variable, positive, states, with_free};
+use crate::states::{states, with_free};
 use crate::trail::Trail;
-use feat_proof::{Clause, Cnf, Known, Log, NoMemory, Step};
+use crate::variables::positive;
+use crate::watched::Pair;
+use crate::watches::Watches;
+use feat_proof::{Clause, Cnf, Known, Lit, Log, NoMemory, Step};
 use std::alloc::Global;
 
 /// How a turn of the search ends.
@@ -30,52 +31,82 @@ pub enum Turn {
     Closed,
 }
 
-/// Adds the step of a conflict, and turns the last decision round.
+/// What spares the search a scan of all clauses and of all literals.
+#[derive(Drop)]
+pub struct Aids {
+    watches: Watches,
+    marks: Marks,
+}
+
+/// The literals that a learnt clause watches: the one that is turned round, and the one whose level is the
+/// last that is left.
+fn watched_pair(decision: Lit, last: Option<Lit>) -> Option<Pair> {
+    let other = last?;
+    Some(Pair {
+        first: decision.negated(),
+        second: other.negated(),
+    })
+}
+
+/// Adds the step of a conflict, and turns the last decision round on which it depends.
 fn turn_round(
     alloc: Global,
     vars: u32,
     clauses: &[Clause],
     steps: &mut Vec<Step>,
     trail: &mut Trail,
+    aids: &mut Aids,
     number: u64,
 ) -> Result<Turn, NoMemory>
     requires state { IsState vars clauses.now steps.old.items trail.old }
-    requires conflict { LookIs clauses.now (map (λ s. s.0) steps.old.items) (literals trail.old) (looks.Conflict number) }
+    requires conflict { Conflicts (clauses.now ++ map (λ s. s.0) steps.old.items) trail.old number }
     requires few { length clauses.now < 2147483648 }
     ensures { IfOk result (λ t. TurnIs vars clauses.now trail.old steps.new.items trail.new t) }
 {
-    let step = trail.step(alloc, &Known::new(clauses, steps), number)?;
-    settle(trail, step.literals());
+    let step = learn(
+        alloc,
+        trail.entries(),
+        &Known::new(clauses, steps),
+        number,
+        &mut aids.marks,
+    )?;
+    mark_clause(step.literals(), &mut aids.marks)?;
+    settle(trail, &aids.marks);
     let Some(decision) = trail.take_back() else {
         steps.push(step)?;
         return Ok(Turn::Closed);
     };
-    settle(trail, step.literals());
+    settle(trail, &aids.marks);
+    aids.watches.go_back(trail.len());
+    aids.watches
+        .add(watched_pair(decision, trail.last_decision()))?;
     steps.push(step)?;
-    trail.push(
-        decision.negated(),
-        Some((clauses.len() + steps.len()) as u64),
-    )?;
+    trail.force(decision.negated(), (clauses.len() + steps.len()) as u64)?;
     Ok(Turn::More)
 }
 
-/// Decides the least variable without a value.
+/// Decides the least variable without a value. Where each has one, all clauses are looked at.
 fn decide(
+    alloc: Global,
     vars: u32,
     clauses: &[Clause],
-    steps: &Vec<Step>,
+    steps: &mut Vec<Step>,
     trail: &mut Trail,
+    aids: &mut Aids,
 ) -> Result<Turn, NoMemory>
     requires vars { vars ≤ 2147483647 }
-    requires state { IsState vars clauses.now steps.now.items trail.old }
-    requires quiet { list_any (falsified (literals trail.old)) clauses.now ≡ false }
-    ensures { IfOk result (λ t. TurnIs vars clauses.now trail.old steps.now.items trail.new t) }
+    requires few { length clauses.now < 2147483648 }
+    requires state { IsState vars clauses.now steps.old.items trail.old }
+    ensures { IfOk result (λ t. TurnIs vars clauses.now trail.old steps.new.items trail.new t) }
 {
-    let Some(variable) = free_variable(trail, vars) else {
-        return Ok(Turn::Found);
-    };
-    trail.push(positive(variable), None)?;
-    Ok(Turn::More)
+    if let Some(variable) = trail.free_variable(vars) {
+        trail.decide(positive(variable))?;
+        return Ok(Turn::More);
+    }
+    match first_falsified(clauses, trail) {
+        Some(number) => turn_round(alloc, vars, clauses, steps, trail, aids, number),
+        None => Ok(Turn::Found),
+    }
 }
 
 /// One more literal, or one more step.
@@ -85,6 +116,7 @@ fn take_turn(
     clauses: &[Clause],
     steps: &mut Vec<Step>,
     trail: &mut Trail,
+    aids: &mut Aids,
 ) -> Result<Turn, NoMemory>
     requires vars { vars ≤ 2147483647 }
     requires within { AllByRecursion (IsClause vars) clauses.now }
@@ -92,17 +124,17 @@ fn take_turn(
     requires state { IsState vars clauses.now steps.old.items trail.old }
     ensures { IfOk result (λ t. TurnIs vars clauses.now trail.old steps.new.items trail.new t) }
 {
-    match look_over(clauses, steps, trail) {
-        Look::Conflict(number) => {
-            return turn_round(alloc, vars, clauses, steps, trail, number);
-        }
+    match aids
+        .watches
+        .look(alloc, &Known::new(clauses, steps), trail)?
+    {
+        Look::Conflict(number) => turn_round(alloc, vars, clauses, steps, trail, aids, number),
         Look::Forced(literal, number) => {
-            trail.push(literal, Some(number))?;
-            return Ok(Turn::More);
+            trail.force(literal, number)?;
+            Ok(Turn::More)
         }
-        Look::Quiet => {}
+        Look::Quiet => decide(alloc, vars, clauses, steps, trail, aids),
     }
-    decide(vars, clauses, steps, trail)
 }
 
 /// The search over the variables of the clauses.
@@ -114,8 +146,12 @@ fn search(alloc: Global, vars: u32, clauses: &[Clause]) -> Result<Answer, NoMemo
 {
     let mut trail = Trail::new(alloc);
     let mut steps: Vec<Step> = Vec::new(alloc);
+    let mut aids = Aids {
+        watches: Watches::new(alloc, vars, clauses)?,
+        marks: Marks::new(alloc),
+    };
     'turns: loop {
-        match take_turn(alloc, vars, clauses, &mut steps, &mut trail)? {
+        match take_turn(alloc, vars, clauses, &mut steps, &mut trail, &mut aids)? {
             Turn::More => {}
             Turn::Found => return Ok(Answer::Model(states(alloc, &trail, vars)?)),
             Turn::Closed => return Ok(Answer::Refuted(Log::from_vec(steps))),

@@ -4,22 +4,9 @@ ghost use Rattle.std.specs.Prelude.{◌≡◌, ◌+◌, ◌-◌, ◌<◌, ◌≤
 ghost use Rattle.feat_solve.specs.Trail.{valued, AreStates, Complete};
 
 use crate::trail::Trail;
-use feat_proof::{Lit, NoMemory};
+use crate::variables::positive;
+use feat_proof::NoMemory;
 use std::alloc::Global;
-
-/// The least variable without a value.
-pub fn free_variable(trail: &Trail, vars: u32) -> Option<u32>
-    requires { vars ≤ 2147483647 }
-    ensures { MatchOption result (Complete vars trail.now) (λ x. (0 < x) × (x ≤ vars) × (valued trail.now x ≡ false)
-        × ((y : ℕ) → 0 < y → y < x → valued trail.now y ≡ true)) }
-{
-    for place in 0..vars {
-        if !trail.has_value(place + 1) {
-            return Some(place + 1);
-        }
-    }
-    None
-}
 
 /// The states of the variables.
 pub fn states(alloc: Global, trail: &Trail, vars: u32) -> Result<Vec<bool>, NoMemory>
@@ -28,18 +15,9 @@ pub fn states(alloc: Global, trail: &Trail, vars: u32) -> Result<Vec<bool>, NoMe
 {
     let mut states: Vec<bool> = Vec::new(alloc);
     for place in 0..vars {
-        states.push(trail.has(Lit::new(place as i32 + 1)))?;
+        states.push(trail.has(positive(place + 1)))?;
     }
     Ok(states)
-}
-
-/// The literal that is true where the variable is.
-pub fn positive(variable: u32) -> Lit
-    requires some { 0 < variable }
-    requires few { variable ≤ 2147483647 }
-    ensures { result ≡ pos variable }
-{
-    Lit::new(variable as i32)
 }
 
 /// The states of the variables of clauses, with those of the variables beyond, which are on.

@@ -4,9 +4,9 @@ use Rattle.feat_solve.proofs.learning.learn.Given as goal
 
 abbrev pub invariant-walk : goal.invariant-walk
 invariant-walk l = (l.left ≤ length l.entries)
-    × (l.clause.items ++ map neg_ℤ (needed_decisions l.known l.needed.items (reverse (take l.left l.entries)))
+    × (l.clause.items ++ map neg_ℤ (needed_decisions l.known l.marks (reverse (take l.left l.entries)))
     ≡ map neg_ℤ (needed_decisions l.known (causes l.known l.conflict) (reverse l.entries)))
-    × (l.hints.items ++ needed_reasons l.known l.needed.items (reverse (take l.left l.entries))
+    × (l.hints.items ++ needed_reasons l.known l.marks (reverse (take l.left l.entries))
     ≡ l.conflict ∷ needed_reasons l.known (causes l.known l.conflict) (reverse l.entries))
 
 abbrev pub decreases-walk : goal.decreases-walk
