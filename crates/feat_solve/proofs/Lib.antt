@@ -10,3 +10,4 @@ pub mod Jumps
 pub mod Taught
 pub mod Beyond
 pub mod Tabled
+pub mod Printed
