@@ -1,13 +1,13 @@
 -- What the tables beside a trail show, as entries join and are taken back.
-use Rattle.std.proofs.Common.{◌≡◌, ◌≢◌, ◌==◌, ℕ, zero, suc, ◌+◌, ◌-◌, ◌*◌, ◌<◌, ◌≤◌, ℤ, pos, negsuc, neg_ℤ, nat_abs, Bool, true, false, cond, ◌||◌, ◌⊎◌, inl, inr, List, [], ◌∷◌, ◌++◌, min, reverse, length, get_or, set, Option, Some, None, refl, sym, ap, ◌∙◌, subst, ⊎_elim, arith}
+use Rattle.std.proofs.Common.{◌≡◌, ◌==◌, ℕ, zero, suc, ◌-◌, ◌<◌, ◌≤◌, ℤ, pos, negsuc, neg_ℤ, nat_abs, Bool, true, false, cond, ◌||◌, ◌⊎◌, inl, inr, List, [], ◌∷◌, ◌++◌, min, reverse, length, set, Option, Some, None, refl, sym, ap, ◌∙◌, subst, ⊎_elim, arith}
 use Rattle.std.specs.Prelude.{slice_get, slice_index_or, option_to_list, IsSome, ◌↔◌, is_some}
 use Rattle.std.specs.Ordering.{int_eq}
 use Rattle.std.proofs.lemmas.Bool.{false≢true, both_ways, or_cases, or_left, or_right}
 use Rattle.std.proofs.lemmas.Bool.Decides.{Decides-int_eq, Decides-eqb}
-use Rattle.std.proofs.lemmas.List.{get_or-set_same, get_or-set_other, get_or_append_left, reverse-append, reverse-reverse, length-append}
+use Rattle.std.proofs.lemmas.List.{get_or-set_same, get_or-set_other, reverse-append, reverse-reverse, length-append}
 use Rattle.spec_refutation.specs.Derivation.{has}
 use Rattle.feat_solve.specs.Trail.{Entry, literals, valued, decisions, below, last_decided, Complete}
-use Rattle.feat_solve.specs.Tables.{place, marked, Shows, Distinct, IsTabled, IsKept}
+use Rattle.feat_solve.specs.Tables.{place, marked, Shows, IsTabled, IsKept}
 use Rattle.feat_solve.proofs.Turns.{slice_get-seam}
 use Rattle.feat_solve.proofs.Trails.{is_false, has_valued, valued_has, reverse_cons}
 

@@ -8,7 +8,7 @@ use Rattle.std.proofs.lemmas.Bool.Decides.{Decides-int_eq}
 use Rattle.std.proofs.lemmas.List.Folds.{list_any-append}
 use Rattle.spec_refutation.specs.Derivation.{has, open_literals, the_only, falsified, clause_numbered, the_open, leads, derives}
 use Rattle.feat_solve.specs.Trail.{Entry, literals, valued, IsTrail, Conflicts}
-use Rattle.feat_solve.specs.Learnt.{causes, needed_decisions, needed_reasons, learnt}
+use Rattle.feat_solve.specs.Learnt.{causes, is_cut, cuts_below, grounds, chain, learnt}
 use Rattle.feat_solve.proofs.Trails.{is_false, all_only, nat_abs-neg, unvalued_not, consistent, reverse_cons, negs_negs}
 
 -- as open_same, where only the clause's own negations are compared
@@ -40,34 +40,39 @@ opens_near known S T h l clear more e = go (clause_numbered known h) more e
     go (Some c) more e = ap the_only (open_near S T l clear c more (all_only (open_literals S c) l e)) ∙ e
 
 -- the set that the hints lead to
-abbrev reached : List (List ℤ) → List ℤ → List ℤ → List Entry → List ℤ
-reached known D N [] = D
-reached known D N ((l, None) ∷ es) = reached known D N es
-reached known D N ((l, Some h) ∷ es) = cond (has N l) (l ∷ reached known D (N ++ causes known h) es) (reached known D N es)
+abbrev reached : List (List ℤ) → List Bool → List ℤ → List ℤ → List Entry → List ℤ
+reached known cs D N [] = D
+reached known cs D N ((l, None) ∷ es) = reached known (cuts_below cs) D N es
+reached known cs D N ((l, Some h) ∷ es) = cond (has N l)
+    (cond (is_cut cs) (reached known (cuts_below cs) D N es) (l ∷ reached known (cuts_below cs) D (N ++ causes known h) es))
+    (reached known (cuts_below cs) D N es)
 
-in_reached : (known : List (List ℤ)) (D N : List ℤ) (es : List Entry) (x : ℤ) → has D x ≡ true
-    → has (reached known D N es) x ≡ true
-in_reached known D N [] x h = h
-in_reached known D N ((l, None) ∷ es) x h = in_reached known D N es x h
-in_reached known D N ((l, Some r) ∷ es) x h = go (has N l) (in_reached known D (N ++ causes known r) es x h) (in_reached known D N es x h)
+in_reached : (known : List (List ℤ)) (cs : List Bool) (D N : List ℤ) (es : List Entry) (x : ℤ) → has D x ≡ true
+    → has (reached known cs D N es) x ≡ true
+in_reached known cs D N [] x h = h
+in_reached known cs D N ((l, None) ∷ es) x h = in_reached known (cuts_below cs) D N es x h
+in_reached known cs D N ((l, Some r) ∷ es) x h =
+    go (has N l) (is_cut cs) (in_reached known (cuts_below cs) D (N ++ causes known r) es x h) (in_reached known (cuts_below cs) D N es x h)
   where
-    go : (b : Bool) → has (reached known D (N ++ causes known r) es) x ≡ true → has (reached known D N es) x ≡ true
-        → has (cond b (l ∷ reached known D (N ++ causes known r) es) (reached known D N es)) x ≡ true
-    go true p q = or_right (int_eq x l) (has (reached known D (N ++ causes known r) es) x) p
-    go false p q = q
+    go : (b c : Bool) → has (reached known (cuts_below cs) D (N ++ causes known r) es) x ≡ true → has (reached known (cuts_below cs) D N es) x ≡ true
+        → has (cond b (cond c (reached known (cuts_below cs) D N es) (l ∷ reached known (cuts_below cs) D (N ++ causes known r) es)) (reached known (cuts_below cs) D N es)) x ≡ true
+    go true true p q = q
+    go true false p q = or_right (int_eq x l) (has (reached known (cuts_below cs) D (N ++ causes known r) es) x) p
+    go false c p q = q
 
-not_reached : (known : List (List ℤ)) (D N : List ℤ) (es : List Entry) (x : ℤ) → has D x ≡ false
-    → has (literals es) x ≡ false → has (reached known D N es) x ≡ false
-not_reached known D N [] x a b = a
-not_reached known D N ((l, None) ∷ es) x a b = not_reached known D N es x a (or_parts (int_eq x l) (has (literals es) x) b).1
-not_reached known D N ((l, Some r) ∷ es) x a b =
+not_reached : (known : List (List ℤ)) (cs : List Bool) (D N : List ℤ) (es : List Entry) (x : ℤ) → has D x ≡ false
+    → has (literals es) x ≡ false → has (reached known cs D N es) x ≡ false
+not_reached known cs D N [] x a b = a
+not_reached known cs D N ((l, None) ∷ es) x a b = not_reached known (cuts_below cs) D N es x a (or_parts (int_eq x l) (has (literals es) x) b).1
+not_reached known cs D N ((l, Some r) ∷ es) x a b =
     let p = or_parts (int_eq x l) (has (literals es) x) b in
-    go (has N l) p.0 (not_reached known D (N ++ causes known r) es x a p.1) (not_reached known D N es x a p.1)
+    go (has N l) (is_cut cs) p.0 (not_reached known (cuts_below cs) D (N ++ causes known r) es x a p.1) (not_reached known (cuts_below cs) D N es x a p.1)
   where
-    go : (b : Bool) → int_eq x l ≡ false → has (reached known D (N ++ causes known r) es) x ≡ false → has (reached known D N es) x ≡ false
-        → has (cond b (l ∷ reached known D (N ++ causes known r) es) (reached known D N es)) x ≡ false
-    go true e p q = or_from (int_eq x l) (has (reached known D (N ++ causes known r) es) x) e p
-    go false e p q = q
+    go : (b c : Bool) → int_eq x l ≡ false → has (reached known (cuts_below cs) D (N ++ causes known r) es) x ≡ false → has (reached known (cuts_below cs) D N es) x ≡ false
+        → has (cond b (cond c (reached known (cuts_below cs) D N es) (l ∷ reached known (cuts_below cs) D (N ++ causes known r) es)) (reached known (cuts_below cs) D N es)) x ≡ false
+    go true true e p q = q
+    go true false e p q = or_from (int_eq x l) (has (reached known (cuts_below cs) D (N ++ causes known r) es) x) e p
+    go false c e p q = q
 
 abbrev Within : List ℤ → List ℤ → Type 0
 Within xs ys = (x : ℤ) → has xs x ≡ true → has ys x ≡ true
@@ -82,85 +87,93 @@ member_eq : (N : List ℤ) (x l : ℤ) → int_eq x l ≡ true → has N x ≡ h
 member_eq N x l e = ap (has N) ((Decides-int_eq x l).0 e)
 
 -- what is needed of the trail is reached
-needed_reached : (known : List (List ℤ)) (D N : List ℤ) (es : List Entry) → Within (needed_decisions known N es) D
-    → (x : ℤ) → has N x ≡ true → has (literals es) x ≡ true → has (reached known D N es) x ≡ true
-needed_reached known D N [] d x n h = absurd (false≢true h)
-needed_reached known D N ((l, None) ∷ es) d x n h =
-    go (has N l) refl d (needed_reached known D N es) (or_cases (int_eq x l) (has (literals es) x) h)
+needed_reached : (known : List (List ℤ)) (cs : List Bool) (D N : List ℤ) (es : List Entry) → Within (grounds known cs N es) D
+    → (x : ℤ) → has N x ≡ true → has (literals es) x ≡ true → has (reached known cs D N es) x ≡ true
+needed_reached known cs D N [] d x n h = absurd (false≢true h)
+needed_reached known cs D N ((l, None) ∷ es) d x n h =
+    go (has N l) refl d (needed_reached known (cuts_below cs) D N es) (or_cases (int_eq x l) (has (literals es) x) h)
   where
-    go : (b : Bool) → has N l ≡ b → Within (cond b (l ∷ needed_decisions known N es) (needed_decisions known N es)) D
-        → (Within (needed_decisions known N es) D → (x : ℤ) → has N x ≡ true → has (literals es) x ≡ true → has (reached known D N es) x ≡ true)
-        → (int_eq x l ≡ true) ⊎ (has (literals es) x ≡ true) → has (reached known D N es) x ≡ true
-    go true is d ih (inl q) = in_reached known D N es x (d x (or_left (int_eq x l) (has (needed_decisions known N es) x) q))
-    go true is d ih (inr q) = ih (λ y k. d y (or_right (int_eq y l) (has (needed_decisions known N es) y) k)) x n q
+    go : (b : Bool) → has N l ≡ b → Within (cond b (l ∷ grounds known (cuts_below cs) N es) (grounds known (cuts_below cs) N es)) D
+        → (Within (grounds known (cuts_below cs) N es) D → (x : ℤ) → has N x ≡ true → has (literals es) x ≡ true → has (reached known (cuts_below cs) D N es) x ≡ true)
+        → (int_eq x l ≡ true) ⊎ (has (literals es) x ≡ true) → has (reached known (cuts_below cs) D N es) x ≡ true
+    go true is d ih (inl q) = in_reached known (cuts_below cs) D N es x (d x (or_left (int_eq x l) (has (grounds known (cuts_below cs) N es) x) q))
+    go true is d ih (inr q) = ih (λ y k. d y (or_right (int_eq y l) (has (grounds known (cuts_below cs) N es) y) k)) x n q
     go false is d ih (inl q) = absurd (both_ways (has N l) is (sym (member_eq N x l q) ∙ n))
     go false is d ih (inr q) = ih d x n q
-needed_reached known D N ((l, Some r) ∷ es) d x n h =
-    go (has N l) refl d (needed_reached known D (N ++ causes known r) es) (needed_reached known D N es) (or_cases (int_eq x l) (has (literals es) x) h)
+needed_reached known cs D N ((l, Some r) ∷ es) d x n h =
+    go (has N l) (is_cut cs) refl d (needed_reached known (cuts_below cs) D (N ++ causes known r) es) (needed_reached known (cuts_below cs) D N es) (or_cases (int_eq x l) (has (literals es) x) h)
   where
-    go : (b : Bool) → has N l ≡ b → Within (cond b (needed_decisions known (N ++ causes known r) es) (needed_decisions known N es)) D
-        → (Within (needed_decisions known (N ++ causes known r) es) D → (x : ℤ) → has (N ++ causes known r) x ≡ true → has (literals es) x ≡ true → has (reached known D (N ++ causes known r) es) x ≡ true)
-        → (Within (needed_decisions known N es) D → (x : ℤ) → has N x ≡ true → has (literals es) x ≡ true → has (reached known D N es) x ≡ true)
+    go : (b c : Bool) → has N l ≡ b
+        → Within (cond b (cond c (l ∷ grounds known (cuts_below cs) N es) (grounds known (cuts_below cs) (N ++ causes known r) es)) (grounds known (cuts_below cs) N es)) D
+        → (Within (grounds known (cuts_below cs) (N ++ causes known r) es) D → (x : ℤ) → has (N ++ causes known r) x ≡ true → has (literals es) x ≡ true → has (reached known (cuts_below cs) D (N ++ causes known r) es) x ≡ true)
+        → (Within (grounds known (cuts_below cs) N es) D → (x : ℤ) → has N x ≡ true → has (literals es) x ≡ true → has (reached known (cuts_below cs) D N es) x ≡ true)
         → (int_eq x l ≡ true) ⊎ (has (literals es) x ≡ true)
-        → has (cond b (l ∷ reached known D (N ++ causes known r) es) (reached known D N es)) x ≡ true
-    go true is d more same (inl q) = or_left (int_eq x l) (has (reached known D (N ++ causes known r) es) x) q
-    go true is d more same (inr q) = or_right (int_eq x l) (has (reached known D (N ++ causes known r) es) x) (more d x (has_append_left N (causes known r) x n) q)
-    go false is d more same (inl q) = absurd (both_ways (has N l) is (sym (member_eq N x l q) ∙ n))
-    go false is d more same (inr q) = same d x n q
+        → has (cond b (cond c (reached known (cuts_below cs) D N es) (l ∷ reached known (cuts_below cs) D (N ++ causes known r) es)) (reached known (cuts_below cs) D N es)) x ≡ true
+    go true true is d more same (inl q) = in_reached known (cuts_below cs) D N es x (d x (or_left (int_eq x l) (has (grounds known (cuts_below cs) N es) x) q))
+    go true true is d more same (inr q) = same (λ y k. d y (or_right (int_eq y l) (has (grounds known (cuts_below cs) N es) y) k)) x n q
+    go true false is d more same (inl q) = or_left (int_eq x l) (has (reached known (cuts_below cs) D (N ++ causes known r) es) x) q
+    go true false is d more same (inr q) = or_right (int_eq x l) (has (reached known (cuts_below cs) D (N ++ causes known r) es) x) (more d x (has_append_left N (causes known r) x n) q)
+    go false c is d more same (inl q) = absurd (both_ways (has N l) is (sym (member_eq N x l q) ∙ n))
+    go false c is d more same (inr q) = same d x n q
 
-leads_needed : (vars : ℕ) (known : List (List ℤ)) (D N : List ℤ) (es : List Entry) → IsTrail vars known es
-    → Within (needed_decisions known N es) D
+leads_needed : (vars : ℕ) (known : List (List ℤ)) (cs : List Bool) (D N : List ℤ) (es : List Entry) → IsTrail vars known es
+    → Within (grounds known cs N es) D
     → ((y : ℤ) → has (literals es) y ≡ true → has D (neg_ℤ y) ≡ false)
     → (g : ℕ) (gs : List ℕ)
-    → leads known D (reverse (needed_reasons known N es) ++ (g ∷ gs)) ≡ leads known (reached known D N es) (g ∷ gs)
-leads_needed vars known D N [] t d clear g gs = refl
-leads_needed vars known D N ((l, None) ∷ es) t d clear g gs =
-    leads_needed vars known D N es t.1 (fewer (has N l) d) (λ y k. clear y (or_right (int_eq y l) (has (literals es) y) k)) g gs
+    → leads known D (reverse (chain known cs N es) ++ (g ∷ gs)) ≡ leads known (reached known cs D N es) (g ∷ gs)
+leads_needed vars known cs D N [] t d clear g gs = refl
+leads_needed vars known cs D N ((l, None) ∷ es) t d clear g gs =
+    leads_needed vars known (cuts_below cs) D N es t.1 (fewer (has N l) d) (λ y k. clear y (or_right (int_eq y l) (has (literals es) y) k)) g gs
   where
-    fewer : (b : Bool) → Within (cond b (l ∷ needed_decisions known N es) (needed_decisions known N es)) D → Within (needed_decisions known N es) D
-    fewer true d y k = d y (or_right (int_eq y l) (has (needed_decisions known N es) y) k)
+    fewer : (b : Bool) → Within (cond b (l ∷ grounds known (cuts_below cs) N es) (grounds known (cuts_below cs) N es)) D → Within (grounds known (cuts_below cs) N es) D
+    fewer true d y k = d y (or_right (int_eq y l) (has (grounds known (cuts_below cs) N es) y) k)
     fewer false d y k = d y k
-leads_needed vars known D N ((l, Some r) ∷ es) t d clear g gs =
+leads_needed vars known cs D N ((l, Some r) ∷ es) t d clear g gs =
     let clear' : (y : ℤ) → has (literals es) y ≡ true → has D (neg_ℤ y) ≡ false = λ y k. clear y (or_right (int_eq y l) (has (literals es) y) k) in
-    go (has N l) d
-    (λ d. leads_needed vars known D (N ++ causes known r) es t.1 d clear' r (g ∷ gs))
-    (λ d. leads_needed vars known D N es t.1 d clear' g gs)
+    go (has N l) (is_cut cs) d
+    (λ d. leads_needed vars known (cuts_below cs) D (N ++ causes known r) es t.1 d clear' r (g ∷ gs))
+    (λ d. leads_needed vars known (cuts_below cs) D N es t.1 d clear' g gs)
   where
-    go : (b : Bool) → Within (cond b (needed_decisions known (N ++ causes known r) es) (needed_decisions known N es)) D
-        → (Within (needed_decisions known (N ++ causes known r) es) D
-        → leads known D (reverse (needed_reasons known (N ++ causes known r) es) ++ (r ∷ g ∷ gs)) ≡ leads known (reached known D (N ++ causes known r) es) (r ∷ g ∷ gs))
-        → (Within (needed_decisions known N es) D
-        → leads known D (reverse (needed_reasons known N es) ++ (g ∷ gs)) ≡ leads known (reached known D N es) (g ∷ gs))
-        → leads known D (reverse (cond b (r ∷ needed_reasons known (N ++ causes known r) es) (needed_reasons known N es)) ++ (g ∷ gs))
-        ≡ leads known (cond b (l ∷ reached known D (N ++ causes known r) es) (reached known D N es)) (g ∷ gs)
-    go false d more same = same d
-    go true d more same =
-        let J = reached known D (N ++ causes known r) es in
+    go : (b c : Bool)
+        → Within (cond b (cond c (l ∷ grounds known (cuts_below cs) N es) (grounds known (cuts_below cs) (N ++ causes known r) es)) (grounds known (cuts_below cs) N es)) D
+        → (Within (grounds known (cuts_below cs) (N ++ causes known r) es) D
+        → leads known D (reverse (chain known (cuts_below cs) (N ++ causes known r) es) ++ (r ∷ g ∷ gs)) ≡ leads known (reached known (cuts_below cs) D (N ++ causes known r) es) (r ∷ g ∷ gs))
+        → (Within (grounds known (cuts_below cs) N es) D
+        → leads known D (reverse (chain known (cuts_below cs) N es) ++ (g ∷ gs)) ≡ leads known (reached known (cuts_below cs) D N es) (g ∷ gs))
+        → leads known D (reverse (cond b (cond c (chain known (cuts_below cs) N es) (r ∷ chain known (cuts_below cs) (N ++ causes known r) es)) (chain known (cuts_below cs) N es)) ++ (g ∷ gs))
+        ≡ leads known (cond b (cond c (reached known (cuts_below cs) D N es) (l ∷ reached known (cuts_below cs) D (N ++ causes known r) es)) (reached known (cuts_below cs) D N es)) (g ∷ gs)
+    go false c d more same = same d
+    go true true d more same = same (λ y k. d y (or_right (int_eq y l) (has (grounds known (cuts_below cs) N es) y) k))
+    go true false d more same =
+        let J = reached known (cuts_below cs) D (N ++ causes known r) es in
         let opens : the_open known J r ≡ Some l =
         opens_near known (literals es) J r l
-        (not_reached known D (N ++ causes known r) es (neg_ℤ l) (clear l (or_left (int_eq l l) (has (literals es) l) ((Decides-int_eq l l).1 refl)))
+        (not_reached known (cuts_below cs) D (N ++ causes known r) es (neg_ℤ l) (clear l (or_left (int_eq l l) (has (literals es) l) ((Decides-int_eq l l).1 refl)))
         (unvalued_not es (neg_ℤ l) (ap (valued es) (nat_abs-neg l) ∙ t.0.free)))
-        (λ x c s. needed_reached known D (N ++ causes known r) es d x (has_append_right N (causes known r) x c) s) t.0.why in
-        ap (λ hs. leads known D (hs ++ (g ∷ gs))) (reverse_cons r (needed_reasons known (N ++ causes known r) es))
-        ∙ ap (leads known D) (append_assoc (reverse (needed_reasons known (N ++ causes known r) es)) (r ∷ []) (g ∷ gs))
+        (λ x c s. needed_reached known (cuts_below cs) D (N ++ causes known r) es d x (has_append_right N (causes known r) x c) s) t.0.why in
+        ap (λ hs. leads known D (hs ++ (g ∷ gs))) (reverse_cons r (chain known (cuts_below cs) (N ++ causes known r) es))
+        ∙ ap (leads known D) (append_assoc (reverse (chain known (cuts_below cs) (N ++ causes known r) es)) (r ∷ []) (g ∷ gs))
         ∙ more d
         ∙ ap (λ o. option_map_or (λ m. leads known (m ∷ J) (g ∷ gs)) o false) opens
 
-needed_in : (known : List (List ℤ)) (N : List ℤ) (es : List Entry) → Within (needed_decisions known N es) (literals es)
-needed_in known N [] x h = h
-needed_in known N ((l, None) ∷ es) x h = go (has N l) h (needed_in known N es x)
+-- it depends on literals of the trail
+pub grounds_in : (known : List (List ℤ)) (cs : List Bool) (N : List ℤ) (es : List Entry) → Within (grounds known cs N es) (literals es)
+grounds_in known cs N [] x h = h
+grounds_in known cs N ((l, None) ∷ es) x h = go (has N l) h (grounds_in known (cuts_below cs) N es x)
   where
-    go : (b : Bool) → has (cond b (l ∷ needed_decisions known N es) (needed_decisions known N es)) x ≡ true
-        → (has (needed_decisions known N es) x ≡ true → has (literals es) x ≡ true) → (int_eq x l || has (literals es) x) ≡ true
-    go true h ih = ⊎_elim (λ q. or_left (int_eq x l) (has (literals es) x) q) (λ q. or_right (int_eq x l) (has (literals es) x) (ih q)) (or_cases (int_eq x l) (has (needed_decisions known N es) x) h)
+    go : (b : Bool) → has (cond b (l ∷ grounds known (cuts_below cs) N es) (grounds known (cuts_below cs) N es)) x ≡ true
+        → (has (grounds known (cuts_below cs) N es) x ≡ true → has (literals es) x ≡ true) → (int_eq x l || has (literals es) x) ≡ true
+    go true h ih = ⊎_elim (λ q. or_left (int_eq x l) (has (literals es) x) q) (λ q. or_right (int_eq x l) (has (literals es) x) (ih q)) (or_cases (int_eq x l) (has (grounds known (cuts_below cs) N es) x) h)
     go false h ih = or_right (int_eq x l) (has (literals es) x) (ih h)
-needed_in known N ((l, Some r) ∷ es) x h = go (has N l) h (needed_in known (N ++ causes known r) es x) (needed_in known N es x)
+grounds_in known cs N ((l, Some r) ∷ es) x h =
+    go (has N l) (is_cut cs) h (grounds_in known (cuts_below cs) (N ++ causes known r) es x) (grounds_in known (cuts_below cs) N es x)
   where
-    go : (b : Bool) → has (cond b (needed_decisions known (N ++ causes known r) es) (needed_decisions known N es)) x ≡ true
-        → (has (needed_decisions known (N ++ causes known r) es) x ≡ true → has (literals es) x ≡ true)
-        → (has (needed_decisions known N es) x ≡ true → has (literals es) x ≡ true) → (int_eq x l || has (literals es) x) ≡ true
-    go true h more same = or_right (int_eq x l) (has (literals es) x) (more h)
-    go false h more same = or_right (int_eq x l) (has (literals es) x) (same h)
+    go : (b c : Bool) → has (cond b (cond c (l ∷ grounds known (cuts_below cs) N es) (grounds known (cuts_below cs) (N ++ causes known r) es)) (grounds known (cuts_below cs) N es)) x ≡ true
+        → (has (grounds known (cuts_below cs) (N ++ causes known r) es) x ≡ true → has (literals es) x ≡ true)
+        → (has (grounds known (cuts_below cs) N es) x ≡ true → has (literals es) x ≡ true) → (int_eq x l || has (literals es) x) ≡ true
+    go true true h more same = ⊎_elim (λ q. or_left (int_eq x l) (has (literals es) x) q) (λ q. or_right (int_eq x l) (has (literals es) x) (same q)) (or_cases (int_eq x l) (has (grounds known (cuts_below cs) N es) x) h)
+    go true false h more same = or_right (int_eq x l) (has (literals es) x) (more h)
+    go false c h more same = or_right (int_eq x l) (has (literals es) x) (same h)
 
 falsified_near : (S T : List ℤ) (c : List ℤ) → ((x : ℤ) → has (map neg_ℤ c) x ≡ true → has S x ≡ true → has T x ≡ true)
     → falsified S c ≡ true → falsified T c ≡ true
@@ -170,16 +183,16 @@ falsified_near S T (l ∷ c) more e =
     ap (λ b. b && falsified T c) (more (neg_ℤ l) (or_left (int_eq (neg_ℤ l) (neg_ℤ l)) (has (map neg_ℤ c) (neg_ℤ l)) ((Decides-int_eq (neg_ℤ l) (neg_ℤ l)).1 refl)) p.0)
     ∙ falsified_near S T c (λ x k. more x (or_right (int_eq x (neg_ℤ l)) (has (map neg_ℤ c) x) k)) p.1
 
-pub learnt_derives : (vars : ℕ) (known : List (List ℤ)) (es : List Entry) → IsTrail vars known es → (h : ℕ)
-    → Conflicts known es h → derives known (learnt known es h) ≡ true
-learnt_derives vars known es t h f =
+pub learnt_derives : (vars : ℕ) (known : List (List ℤ)) (cs : List Bool) (es : List Entry) → IsTrail vars known es → (h : ℕ)
+    → Conflicts known es h → derives known (learnt known cs es h) ≡ true
+learnt_derives vars known cs es t h f =
     let N = causes known h in
-    let D = needed_decisions known N es in
-    ap (λ s. leads known s (reverse (h ∷ needed_reasons known N es))) (negs_negs D)
-    ∙ ap (leads known D) (reverse_cons h (needed_reasons known N es))
-    ∙ leads_needed vars known D N es t (λ y k. k)
-    (λ y k. is_false (has D (neg_ℤ y)) (λ q. both_ways (has (literals es) (neg_ℤ y)) (consistent vars known es t y k) (needed_in known N es (neg_ℤ y) q))) h []
-    ∙ near (clause_numbered known h) (literals es) (reached known D N es) (needed_reached known D N es (λ y k. k)) f
+    let D = grounds known cs N es in
+    ap (λ s. leads known s (reverse (h ∷ chain known cs N es))) (negs_negs D)
+    ∙ ap (leads known D) (reverse_cons h (chain known cs N es))
+    ∙ leads_needed vars known cs D N es t (λ y k. k)
+    (λ y k. is_false (has D (neg_ℤ y)) (λ q. both_ways (has (literals es) (neg_ℤ y)) (consistent vars known es t y k) (grounds_in known cs N es (neg_ℤ y) q))) h []
+    ∙ near (clause_numbered known h) (literals es) (reached known cs D N es) (needed_reached known cs D N es (λ y k. k)) f
   where
     near : (o : Option (List ℤ)) (S T : List ℤ)
         → ((x : ℤ) → has (option_map_or (map neg_ℤ) o []) x ≡ true → has S x ≡ true → has T x ≡ true)

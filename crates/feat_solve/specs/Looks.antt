@@ -1,5 +1,5 @@
 -- What a look at clauses tells.
-use Rattle.std.specs.Prelude.{◌≡◌, ℕ, ℤ, Bool, true, false, List, Some, ⊤}
+use Rattle.std.specs.Prelude.{◌≡◌, ℤ, true, false, List, Some, ⊤}
 use Rattle.std.specs.Option.{option_map_or}
 use Rattle.spec_refutation.specs.Derivation.{has, open_literals, the_only, falsified, clause_numbered, the_open}
 use Rattle.feat_solve.specs.declared.looking.Seen.{Seen}

@@ -1,11 +1,12 @@
 //! What a conflict teaches.
 
-ghost use Rattle.std.specs.Prelude.{◌≡◌, ◌∷◌, ◌++◌, List, map, reverse, neg_ℤ, OnOk, IfOk};
+ghost use Rattle.std.specs.Prelude.{◌≡◌, [], ◌∷◌, ◌++◌, Bool, List, map, reverse, neg_ℤ, OnOk, IfOk};
 ghost use Rattle.spec_refutation.specs.Derivation.{has};
 ghost use Rattle.feat_solve.specs.Trail.{Entry};
-ghost use Rattle.feat_solve.specs.Learnt.{causes, needed_decisions, needed_reasons, learnt, settled};
+ghost use Rattle.feat_solve.specs.Learnt.{causes, is_cut, cuts_below, grounds, chain, learnt, settled};
 
 use crate::entries::Entry;
+use crate::guide::Guide;
 use crate::marks::Marks;
 use crate::trail::Trail;
 use feat_proof::{Clause, Known, Lit, NoMemory, Step};
@@ -24,18 +25,22 @@ fn mark_causes(known: &Known<'_>, number: u64, needed: &mut Marks) -> Result<(),
     Ok(())
 }
 
-/// Takes up one entry, if it is needed.
+/// Takes up one entry, if it is needed: a decision and an entry that is kept as a literal of the clause, any
+/// other by its reason.
 fn visit(
     entry: &Entry,
+    kept: bool,
     known: &Known<'_>,
     needed: &mut Marks,
     clause: &mut Vec<Lit>,
     hints: &mut Vec<u64>,
 ) -> Result<(), NoMemory>
-    ensures clause { OnOk result ((es : List Entry) → clause.new.items ++ map neg_ℤ (needed_decisions known.now needed.new es)
-        ≡ clause.old.items ++ map neg_ℤ (needed_decisions known.now needed.old (entry.now ∷ es))) }
-    ensures hints { OnOk result ((es : List Entry) → hints.new.items ++ needed_reasons known.now needed.new es
-        ≡ hints.old.items ++ needed_reasons known.now needed.old (entry.now ∷ es)) }
+    ensures clause { OnOk result ((cuts : List Bool) (es : List Entry) → is_cut cuts ≡ kept →
+        clause.new.items ++ map neg_ℤ (grounds known.now (cuts_below cuts) needed.new es)
+        ≡ clause.old.items ++ map neg_ℤ (grounds known.now cuts needed.old (entry.now ∷ es))) }
+    ensures hints { OnOk result ((cuts : List Bool) (es : List Entry) → is_cut cuts ≡ kept →
+        hints.new.items ++ chain known.now (cuts_below cuts) needed.new es
+        ≡ hints.old.items ++ chain known.now cuts needed.old (entry.now ∷ es)) }
 {
     if !needed.contains(entry.literal) {
         return Ok(());
@@ -44,13 +49,17 @@ fn visit(
         clause.push(entry.literal.negated())?;
         return Ok(());
     };
+    if kept {
+        clause.push(entry.literal.negated())?;
+        return Ok(());
+    }
     hints.push(number)?;
     mark_causes(known, number, needed)?;
     Ok(())
 }
 
-/// The step that teaches what the conflict depends on: the negations of the decisions, with the reasons of
-/// the forced literals as hints, in the order of the trail.
+/// The step that teaches on which decisions the conflict depends: their negations, with the reasons of the
+/// forced literals between as hints, in the order of the trail.
 pub fn learn(
     alloc: Global,
     entries: &[Entry],
@@ -58,7 +67,7 @@ pub fn learn(
     conflict: u64,
     marks: &mut Marks,
 ) -> Result<Step, NoMemory>
-    ensures { IfOk result (λ s. s ≡ learnt known.now (reverse entries.now) conflict) }
+    ensures { IfOk result (λ s. s ≡ learnt known.now [] (reverse entries.now) conflict) }
 {
     marks.clear();
     mark_causes(known, conflict, marks)?;
@@ -68,7 +77,34 @@ pub fn learn(
     let mut left = entries.len();
     'walk: while left > 0 {
         left -= 1;
-        visit(&entries[left], known, marks, &mut clause, &mut hints)?;
+        visit(&entries[left], false, known, marks, &mut clause, &mut hints)?;
+    }
+    hints.reverse();
+    Ok(Step::from_parts(Clause::from_vec(clause), hints))
+}
+
+/// The step that teaches by which literals the conflict can be told, as the guide keeps them.
+pub fn learn_kept(
+    alloc: Global,
+    entries: &[Entry],
+    known: &Known<'_>,
+    conflict: u64,
+    marks: &mut Marks,
+    guide: &mut Guide,
+) -> Result<Step, NoMemory>
+    ensures { IfOk result (λ s. (cuts : List Bool) × (s ≡ learnt known.now cuts (reverse entries.now) conflict)) }
+{
+    marks.clear();
+    guide.follow(known, conflict, marks);
+    mark_causes(known, conflict, marks)?;
+    let mut clause: Vec<Lit> = Vec::new(alloc);
+    let mut hints: Vec<u64> = Vec::new(alloc);
+    hints.push(conflict)?;
+    let mut left = entries.len();
+    'walk: while left > 0 {
+        left -= 1;
+        let kept = guide.keeps(&entries[left], known, marks);
+        visit(&entries[left], kept, known, marks, &mut clause, &mut hints)?;
     }
     hints.reverse();
     Ok(Step::from_parts(Clause::from_vec(clause), hints))

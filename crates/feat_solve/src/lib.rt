@@ -4,6 +4,7 @@
 mod answers;
 mod entries;
 mod flags;
+mod guide;
 mod learning;
 mod looking;
 mod marks;

@@ -8,14 +8,15 @@ ghost use Rattle.feat_solve.specs.Trail.{IsState, Conflicts};
 ghost use Rattle.feat_solve.specs.Answers.{TurnIs, Solves, IsRefuted};
 
 use crate::answers::Answer;
-use crate::learning::{learn, mark_clause, settle};
+use crate::guide::Guide;
+use crate::learning::{learn, learn_kept, mark_clause, settle};
 use crate::looking::{Look, first_falsified};
 use crate::marks::Marks;
 use crate::reach::greatest_variable;
 use crate::states::{states, with_free};
 use crate::trail::Trail;
 use crate::variables::positive;
-use crate::watched::Pair;
+use crate::watched::{Pair, first_two};
 use crate::watches::Watches;
 use feat_proof::{Clause, Cnf, Known, Lit, Log, NoMemory, Step};
 use std::alloc::Global;
@@ -85,6 +86,61 @@ fn turn_round(
     Ok(Turn::More)
 }
 
+/// Adds the step by which the conflict can be told shortest, where forced literals tell it shorter than
+/// decisions. The trail falsifies its clause too, and the answer is its number.
+fn shorten(
+    alloc: Global,
+    vars: u32,
+    clauses: &[Clause],
+    steps: &mut Vec<Step>,
+    trail: &Trail,
+    aids: &mut Aids,
+    number: u64,
+) -> Result<u64, NoMemory>
+    requires state { IsState vars clauses.now steps.old.items trail.now }
+    requires conflict { Conflicts (clauses.now ++ map (λ s. s.0) steps.old.items) trail.now number }
+    requires few { length clauses.now < 2147483648 }
+    ensures state { IfOk result (λ _. IsState vars clauses.now steps.new.items trail.now) }
+    ensures conflict { IfOk result (λ n. Conflicts (clauses.now ++ map (λ s. s.0) steps.new.items) trail.now n) }
+{
+    let mut guide = Guide::new(alloc, trail.entries(), trail.levels())?;
+    let step = learn_kept(
+        alloc,
+        trail.entries(),
+        &Known::new(clauses, steps),
+        number,
+        &mut aids.marks,
+        &mut guide,
+    )?;
+    if !guide.has_cut() {
+        return Ok(number);
+    }
+    aids.watches.add(first_two(step.literals()))?;
+    steps.push(step)?;
+    let learnt = (clauses.len() + steps.len()) as u64;
+    aids.watches.ask(learnt);
+    Ok(learnt)
+}
+
+/// Learns from a conflict, and turns the last decision round on which it depends.
+fn learn_and_turn(
+    alloc: Global,
+    vars: u32,
+    clauses: &[Clause],
+    steps: &mut Vec<Step>,
+    trail: &mut Trail,
+    aids: &mut Aids,
+    number: u64,
+) -> Result<Turn, NoMemory>
+    requires state { IsState vars clauses.now steps.old.items trail.old }
+    requires conflict { Conflicts (clauses.now ++ map (λ s. s.0) steps.old.items) trail.old number }
+    requires few { length clauses.now < 2147483648 }
+    ensures { IfOk result (λ t. TurnIs vars clauses.now trail.old steps.new.items trail.new t) }
+{
+    let shorter = shorten(alloc, vars, clauses, steps, trail, aids, number)?;
+    turn_round(alloc, vars, clauses, steps, trail, aids, shorter)
+}
+
 /// Decides the least variable without a value. Where each has one, all clauses are looked at.
 fn decide(
     alloc: Global,
@@ -104,7 +160,7 @@ fn decide(
         return Ok(Turn::More);
     }
     match first_falsified(clauses, trail) {
-        Some(number) => turn_round(alloc, vars, clauses, steps, trail, aids, number),
+        Some(number) => learn_and_turn(alloc, vars, clauses, steps, trail, aids, number),
         None => Ok(Turn::Found),
     }
 }
@@ -128,7 +184,7 @@ fn take_turn(
         .watches
         .look(alloc, &Known::new(clauses, steps), trail)?
     {
-        Look::Conflict(number) => turn_round(alloc, vars, clauses, steps, trail, aids, number),
+        Look::Conflict(number) => learn_and_turn(alloc, vars, clauses, steps, trail, aids, number),
         Look::Forced(literal, number) => {
             trail.force(literal, number)?;
             Ok(Turn::More)

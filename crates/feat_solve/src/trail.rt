@@ -54,6 +54,11 @@ impl Trail {
         self.entries.len()
     }
 
+    /// The number of decisions among them.
+    pub fn levels(&self) -> usize {
+        self.decided.len()
+    }
+
     /// The entries, oldest first.
     pub fn entries(&self) -> &[Entry]
         ensures { reverse result.now ≡ self.now }

@@ -35,7 +35,7 @@ pub enum Visit {
 }
 
 /// The first two literals of a clause that differ.
-fn first_two(clause: &[Lit]) -> Option<Pair> {
+pub fn first_two(clause: &[Lit]) -> Option<Pair> {
     let first = *clause.first()?;
     for literal in clause {
         if *literal != first {

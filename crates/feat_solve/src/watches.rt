@@ -23,6 +23,8 @@ pub struct Watches {
     own: u64,
     /// How many of them have been looked at once.
     begun: u64,
+    /// The number of a learnt clause that is to be looked at next, or 0.
+    asked: u64,
     /// How many of the oldest literals of the trail have been followed.
     followed: usize,
     /// How many of those that watch the next one's negation have been looked at.
@@ -36,6 +38,7 @@ impl Watches {
             watched,
             own: clauses.len() as u64,
             begun: 0,
+            asked: 0,
             followed: 0,
             looked: 0,
         })
@@ -44,6 +47,11 @@ impl Watches {
     /// Adds a learnt clause, with the two literals that it watches, if there are two.
     pub fn add(&mut self, pair: Option<Pair>) -> Result<(), NoMemory> {
         self.watched.add(pair)
+    }
+
+    /// Has the learnt clause of this number looked at next.
+    pub fn ask(&mut self, number: u64) {
+        self.asked = number;
     }
 
     /// Of a trail that has been taken back to so many literals, no more have been followed.
@@ -61,6 +69,14 @@ impl Watches {
     ) -> Result<Look, NoMemory>
         ensures { IfOk result (λ l. LookIs known.now (literals trail.now) l) }
     {
+        if self.asked > 0 {
+            let number = self.asked;
+            self.asked = 0;
+            match look_at_numbered(known, number, trail) {
+                Look::Quiet => {}
+                found => return Ok(found),
+            }
+        }
         for number in self.begun..self.own {
             self.begun = number + 1;
             match look_at_numbered(known, number + 1, trail) {

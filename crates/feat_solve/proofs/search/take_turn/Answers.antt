@@ -1,4 +1,4 @@
-use Rattle.std.proofs.Common.{◌≡◌, ℕ, ◌<◌, ℤ, false, List, ◌∷◌, Some, sym, ap, ◌∙◌, subst}
+use Rattle.std.proofs.Common.{◌≡◌, ◌<◌, false, List, Some, sym, ap, ◌∙◌, subst}
 use Rattle.spec_refutation.specs.Derivation.{has, the_open}
 use Rattle.feat_solve.specs.Trail.{Entry, literals, IsState, weight}
 use Rattle.feat_solve.proofs.Kept.{known_of, state_forced}

@@ -1,5 +1,4 @@
-use Rattle.std.proofs.Common.{◌≡◌, ◌+◌, ◌<◌, ◌≤◌, List, length, reverse, sym, ap, ◌∙◌, subst, arith}
-use Rattle.spec_refutation.specs.Derivation.{Step}
+use Rattle.std.proofs.Common.{◌≡◌, ◌+◌, ◌<◌, ◌≤◌, List, [], length, reverse, sym, ap, ◌∙◌, subst, arith}
 use Rattle.feat_solve.specs.Trail.{Entry, IsState, weight}
 use Rattle.feat_solve.specs.Learnt.{learnt}
 use Rattle.feat_solve.proofs.Kept.{known_of}
@@ -11,10 +10,10 @@ returns-in_default c =
     let clauses = c.args.clauses.now in
     let steps = c.args.steps.now.items in
     let es = c.args.trail.now in
-    let is : c.in_ok-step.step ≡ learnt (known_of clauses steps) es c.args.number =
+    let is : c.in_ok-step.step ≡ learnt (known_of clauses steps) [] es c.args.number =
     c.in_ok-step.ensures
-    ∙ ap (λ k. learnt k (reverse c.entries.result.now) c.args.number) (c.new.ensures ∙ ap (λ x. known_of clauses x) c.deref.ensures.value)
-    ∙ ap (λ t. learnt (known_of clauses steps) t c.args.number) c.entries.ensures in
+    ∙ ap (λ k. learnt k [] (reverse c.entries.result.now) c.args.number) (c.new.ensures ∙ ap (λ x. known_of clauses x) c.deref.ensures.value)
+    ∙ ap (λ t. learnt (known_of clauses steps) [] t c.args.number) c.entries.ensures in
     let few : length clauses + length c.push.new.self.items ≤ 18446744073709551615 =
     omega (arith, c.push.new.self.ok.0, c.push.new.self.ok.1, c.push.new.self.small, c.requires.few) in
     turn_closes c.args.vars clauses steps es c.args.number c.requires.state c.requires.conflict c.in_ok-step.step is
@@ -27,10 +26,10 @@ force-requires c =
     let clauses = c.args.clauses.now in
     let steps = c.args.steps.now.items in
     let es = c.args.trail.now in
-    let is : c.in_ok-step.step ≡ learnt (known_of clauses steps) es c.args.number =
+    let is : c.in_ok-step.step ≡ learnt (known_of clauses steps) [] es c.args.number =
     c.in_ok-step.ensures
-    ∙ ap (λ k. learnt k (reverse c.entries.result.now) c.args.number) (c.new.ensures ∙ ap (λ x. known_of clauses x) c.deref.ensures.value)
-    ∙ ap (λ t. learnt (known_of clauses steps) t c.args.number) c.entries.ensures in
+    ∙ ap (λ k. learnt k [] (reverse c.entries.result.now) c.args.number) (c.new.ensures ∙ ap (λ x. known_of clauses x) c.deref.ensures.value)
+    ∙ ap (λ t. learnt (known_of clauses steps) [] t c.args.number) c.entries.ensures in
     let few : length clauses + length c.push-2.new.self.items ≤ 18446744073709551615 =
     omega (arith, c.push-2.new.self.ok.0, c.push-2.new.self.ok.1, c.push-2.new.self.small, c.requires.few) in
     let t = turn_goes_on c.args.vars clauses steps es c.args.number c.requires.state c.requires.conflict c.in_ok-step.step is
@@ -46,10 +45,10 @@ returns c =
     let clauses = c.args.clauses.now in
     let steps = c.args.steps.now.items in
     let es = c.args.trail.now in
-    let is : c.in_ok-step.step ≡ learnt (known_of clauses steps) es c.args.number =
+    let is : c.in_ok-step.step ≡ learnt (known_of clauses steps) [] es c.args.number =
     c.in_ok-step.ensures
-    ∙ ap (λ k. learnt k (reverse c.entries.result.now) c.args.number) (c.new.ensures ∙ ap (λ x. known_of clauses x) c.deref.ensures.value)
-    ∙ ap (λ t. learnt (known_of clauses steps) t c.args.number) c.entries.ensures in
+    ∙ ap (λ k. learnt k [] (reverse c.entries.result.now) c.args.number) (c.new.ensures ∙ ap (λ x. known_of clauses x) c.deref.ensures.value)
+    ∙ ap (λ t. learnt (known_of clauses steps) [] t c.args.number) c.entries.ensures in
     let few : length clauses + length c.push-2.new.self.items ≤ 18446744073709551615 =
     omega (arith, c.push-2.new.self.ok.0, c.push-2.new.self.ok.1, c.push-2.new.self.small, c.requires.few) in
     let t = turn_goes_on c.args.vars clauses steps es c.args.number c.requires.state c.requires.conflict c.in_ok-step.step is

@@ -1,4 +1,4 @@
-use Rattle.std.proofs.Common.{◌-◌, length, reverse, sym, ap, ◌∙◌}
+use Rattle.std.proofs.Common.{◌-◌, length, reverse, ap, ◌∙◌}
 use Rattle.std.specs.Prelude.{slice_get}
 use Rattle.feat_solve.specs.Trail.{last_decided}
 use Rattle.feat_solve.proofs.Tabled.{last_kept}
