@@ -3,7 +3,6 @@ pub mod Turns
 pub mod Measure
 pub mod Firsts
 pub mod Kept
-pub mod Membership
 pub mod Exact
 pub mod Teaching
 pub mod Jumps

@@ -11,102 +11,9 @@ use Rattle.feat_solve.specs.Tables.{place, marked, Shows, IsTabled, IsKept}
 use Rattle.feat_solve.proofs.Turns.{slice_get-seam}
 use Rattle.feat_solve.proofs.Trails.{is_false, has_valued, valued_has, reverse_cons}
 
--- two literals have one place only where they are one
-place_one : (l m : ℤ) → place l ≡ place m → l ≡ m
-place_one (pos a) (pos b) e = let s : a ≡ b = omega (arith, e) in ap pos s
-place_one (pos a) (negsuc b) e = absurd (omega (arith, e))
-place_one (negsuc a) (pos b) e = absurd (omega (arith, e))
-place_one (negsuc a) (negsuc b) e = let s : a ≡ b = omega (arith, e) in ap negsuc s
-
--- a mark that is written is that of its literal alone
-pub marked_set : (table : List Bool) (l : ℤ) (b : Bool) → place l < length table → (m : ℤ)
-    → marked (set table (place l) b) m ≡ cond (int_eq m l) b (marked table m)
-marked_set table l b lt m = go (int_eq m l) refl
-  where
-    go : (c : Bool) → int_eq m l ≡ c → marked (set table (place l) b) m ≡ cond c b (marked table m)
-    go true is = let s : m ≡ l = (Decides-int_eq m l).0 is in
-        ap (λ z. marked (set table (place l) b) z) s ∙ get_or-set_same table (place l) b false lt
-    go false is = get_or-set_other table (place l) (place m) b false
-        (λ e. both_ways (int_eq m l) is ((Decides-int_eq m l).1 (place_one m l e)))
-
-pub marked_past : (table : List Bool) (l : ℤ) → length table ≤ place l → (m : ℤ)
-    → marked table m ≡ cond (int_eq m l) false (marked table m)
-marked_past table l le m = go (int_eq m l) refl
-  where
-    past : (xs : List Bool) (k : ℕ) → length xs ≤ k → slice_index_or xs k false ≡ false
-    past [] k h = refl
-    past (x ∷ xs) zero h = absurd (omega (arith, h))
-    past (x ∷ xs) (suc k) h = past xs k (omega (arith, h))
-
-    go : (c : Bool) → int_eq m l ≡ c → marked table m ≡ cond c false (marked table m)
-    go true is = let s : m ≡ l = (Decides-int_eq m l).0 is in ap (marked table) s ∙ past table (place l) le
-    go false is = refl
-
--- one more mark that is off past the end changes nothing
-pub padded : (table : List Bool) (k : ℕ) → slice_index_or (table ++ (false ∷ [])) k false ≡ slice_index_or table k false
-padded [] zero = refl
-padded [] (suc k) = refl
-padded (b ∷ table) zero = refl
-padded (b ∷ table) (suc k) = padded table k
-
--- lists of literals with a table
-pub shows_more : (old new : List Bool) (ls : List ℤ) (l : ℤ) → Shows old ls
-    → ((m : ℤ) → marked new m ≡ cond (int_eq m l) true (marked old m)) → Shows new (l ∷ ls)
-shows_more old new ls l s marks m = marks m ∙ go (int_eq m l) (s m)
-  where
-    go : (b : Bool) → marked old m ≡ has ls m → cond b true (marked old m) ≡ (b || has ls m)
-    go true e = refl
-    go false e = e
-
-pub shows_last : (old new : List Bool) (ls : List ℤ) (l : ℤ) → Shows old ls
-    → ((m : ℤ) → marked new m ≡ cond (int_eq m l) true (marked old m)) → Shows new (ls ++ (l ∷ []))
-shows_last old new ls l s marks m = shows_more old new ls l s marks m ∙ sym (has_last ls m)
-  where
-    swap : (a b c : Bool) → (a || (b || c)) ≡ (b || (a || c))
-    swap true true c = refl
-    swap true false c = refl
-    swap false true c = refl
-    swap false false c = refl
-
-    has_last : (ls : List ℤ) (m : ℤ) → has (ls ++ (l ∷ [])) m ≡ (int_eq m l || has ls m)
-    has_last [] m = refl
-    has_last (k ∷ ls) m = ap (λ b. int_eq m k || b) (has_last ls m) ∙ swap (int_eq m k) (int_eq m l) (has ls m)
-
--- a mark is taken off with its literal
-pub off_less : (old new : List Bool) (ls : List ℤ) (l : ℤ) → ((m : ℤ) → marked old m ≡ true → has (ls ++ (l ∷ [])) m ≡ true)
-    → ((m : ℤ) → marked new m ≡ cond (int_eq m l) false (marked old m)) → (m : ℤ) → marked new m ≡ true → has ls m ≡ true
-off_less old new ls l s marks m h = go (int_eq m l) refl (sym (marks m) ∙ h)
-  where
-    in_front : (ls : List ℤ) → has (ls ++ (l ∷ [])) m ≡ true → int_eq m l ≡ false → has ls m ≡ true
-    in_front [] h f = absurd (both_ways (int_eq m l) f (⊎_elim (λ q. q) (λ q. absurd (false≢true q)) (or_cases (int_eq m l) false h)))
-    in_front (k ∷ ls) h f = ⊎_elim (λ q. or_left (int_eq m k) (has ls m) q) (λ q. or_right (int_eq m k) (has ls m) (in_front ls q f))
-        (or_cases (int_eq m k) (has (ls ++ (l ∷ [])) m) h)
-
-    go : (b : Bool) → int_eq m l ≡ b → cond b false (marked old m) ≡ true → has ls m ≡ true
-    go true is e = absurd (false≢true e)
-    go false is e = in_front ls (s m e) is
-
-pub shows_none : (table : List Bool) → ((m : ℤ) → marked table m ≡ true → has [] m ≡ true) → Shows table []
-shows_none table s m = is_false (marked table m) (λ h. false≢true (s m h))
-
 -- a trail with its tables
 pub reverse_snoc : {A : Type 0} (xs : List A) (x : A) → reverse (xs ++ (x ∷ [])) ≡ x ∷ reverse xs
 reverse_snoc xs x = reverse-append xs (x ∷ [])
-
-pub tabled_same : (es : List Entry) (old new : List Bool) (least : ℕ) → IsTabled es old least
-    → ((m : ℤ) → marked new m ≡ marked old m) → IsTabled es new least
-tabled_same es old new least t same =
-    record { shows = λ m. same m ∙ t.shows m; distinct = t.distinct; some = t.some; valued_below = t.valued_below }
-
-tabled_more : (es : List Entry) (l : ℤ) (r : Option ℕ) (old new : List Bool) (least : ℕ) → IsTabled es old least
-    → has (literals es) l ≡ false → ((m : ℤ) → marked new m ≡ cond (int_eq m l) true (marked old m))
-    → IsTabled ((l, r) ∷ es) new least
-tabled_more es l r old new least t out marks = record {
-  shows = shows_more old new (literals es) l t.shows marks;
-  distinct = (out, t.distinct);
-  some = t.some;
-  valued_below = λ x s lt. or_right (nat_abs l == x) (valued es x) (t.valued_below x s lt);
-}
 
 tabled_less : (e : Entry) (es : List Entry) (old new : List Bool) (least : ℕ) → IsTabled (e ∷ es) old least
     → ((m : ℤ) → marked new m ≡ cond (int_eq m e.0) false (marked old m)) → 0 < nat_abs e.0
@@ -133,38 +40,6 @@ tabled_popped entries left e old new least least' is t marks size low =
     let P : List Entry → Type 0 = λ es. IsTabled es old least in
     let Q : ℕ → Type 0 = λ n. IsTabled (reverse left) new n in
     subst Q (sym low) (tabled_less e (reverse left) old new least (subst P (ap reverse is ∙ reverse_snoc left e) t) marks size)
-
-pub kept_starts : IsKept [] [] [] 1
-kept_starts = record {
-  tabled = record { shows = λ m. refl; distinct = tt; some = omega arith; valued_below = λ x s lt. absurd (omega (arith, s, lt)) };
-  levels = refl;
-}
-
-pub kept_same : (es : List Entry) (decided : List ℤ) (old new : List Bool) (least : ℕ) → IsKept es decided old least
-    → ((m : ℤ) → marked new m ≡ marked old m) → IsKept es decided new least
-kept_same es decided old new least k same = record { tabled = tabled_same es old new least k.tabled same; levels = k.levels }
-
-pub kept_forced : (entries after : List Entry) (decided : List ℤ) (l : ℤ) (h : ℕ) (old room new : List Bool) (least : ℕ)
-    → IsKept (reverse entries) decided old least → after ≡ entries ++ ((l, Some h) ∷ [])
-    → ((m : ℤ) → marked room m ≡ marked old m) → ((m : ℤ) → marked new m ≡ cond (int_eq m l) true (marked room m))
-    → has (literals (reverse entries)) l ≡ false → IsKept (reverse after) decided new least
-kept_forced entries after decided l h old room new least k is same marks out =
-    let P : List Entry → Type 0 = λ es. IsKept es decided new least in
-    subst P (sym (ap reverse is ∙ reverse_snoc entries (l, Some h))) (record {
-      tabled = tabled_more (reverse entries) l (Some h) room new least (tabled_same (reverse entries) old room least k.tabled same) out marks;
-      levels = k.levels;
-    })
-
-pub kept_decided : (entries after : List Entry) (decided more : List ℤ) (l : ℤ) (old room new : List Bool) (least : ℕ)
-    → IsKept (reverse entries) decided old least → after ≡ entries ++ ((l, None) ∷ []) → more ≡ decided ++ (l ∷ [])
-    → ((m : ℤ) → marked room m ≡ marked old m) → ((m : ℤ) → marked new m ≡ cond (int_eq m l) true (marked room m))
-    → has (literals (reverse entries)) l ≡ false → IsKept (reverse after) more new least
-kept_decided entries after decided more l old room new least k is ds same marks out =
-    let P : List Entry → Type 0 = λ es. IsKept es more new least in
-    subst P (sym (ap reverse is ∙ reverse_snoc entries (l, None))) (record {
-      tabled = tabled_more (reverse entries) l None room new least (tabled_same (reverse entries) old room least k.tabled same) out marks;
-      levels = ap reverse ds ∙ reverse_snoc decided l ∙ ap (λ t. l ∷ t) k.levels;
-    })
 
 -- the last decision is the last of those that are kept
 no_last : (es : List Entry) → decisions es ≡ [] → last_decided es ≡ None
