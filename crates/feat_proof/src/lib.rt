@@ -27,6 +27,7 @@ pub use checker::check;
 pub use clauses::Clause;
 pub use faults::{LogFault, NoMemory};
 pub use formula::Cnf;
+pub use known::Known;
 pub use literals::Lit;
 pub use logs::Log;
 pub use printing::print_log;

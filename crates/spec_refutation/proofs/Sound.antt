@@ -20,17 +20,17 @@ neg-neg (pos (suc n)) = refl
 neg-neg (negsuc n) = refl
 
 -- the negation of a true literal is false
-neg_of_true : (v : ℕ → Bool) (l : ℤ) → literal_true v l ≡ true → literal_true v (neg_ℤ l) ≡ false
+pub neg_of_true : (v : ℕ → Bool) (l : ℤ) → literal_true v l ≡ true → literal_true v (neg_ℤ l) ≡ false
 neg_of_true v (pos zero) e = absurd (false≢true e)
 neg_of_true v (pos (suc n)) e = ap not e
 neg_of_true v (negsuc n) e = not-true (v (suc n)) e
 
 -- the negation of each member of the set is false
-abbrev AllNegationsFalse : (ℕ → Bool) → List ℤ → Type 0
+abbrev pub AllNegationsFalse : (ℕ → Bool) → List ℤ → Type 0
 AllNegationsFalse v set = (m : ℤ) → has set m ≡ true → literal_true v (neg_ℤ m) ≡ false
 
 -- a literal whose negation is in such a set is false
-opposed_false : (v : ℕ → Bool) (set : List ℤ) → AllNegationsFalse v set → (l : ℤ) → has set (neg_ℤ l) ≡ true
+pub opposed_false : (v : ℕ → Bool) (set : List ℤ) → AllNegationsFalse v set → (l : ℤ) → has set (neg_ℤ l) ≡ true
     → literal_true v l ≡ false
 opposed_false v set a l e = ap (literal_true v) (sym (neg-neg l)) ∙ a (neg_ℤ l) e
 
@@ -42,7 +42,7 @@ falsified_false v set a (l ∷ c) e =
     or_from (literal_true v l) (clause_true v c) (opposed_false v set a l p.0) (falsified_false v set a c p.1)
 
 -- a true clause is true by a literal that the set leaves open
-open_true : (v : ℕ → Bool) (set : List ℤ) → AllNegationsFalse v set → (c : List ℤ) → clause_true v c ≡ true
+pub open_true : (v : ℕ → Bool) (set : List ℤ) → AllNegationsFalse v set → (c : List ℤ) → clause_true v c ≡ true
     → clause_true v (open_literals set c) ≡ true
 open_true v set a [] e = e
 open_true v set a (l ∷ c) e = go (has set (neg_ℤ l)) refl (open_true v set a c)
@@ -65,7 +65,7 @@ equal_true v l (m ∷ ls) same e =
     let p = and_parts (int_eq l m) (list_all (int_eq l) ls) same in
     ⊎_elim (λ t. ap (literal_true v) ((Decides-int_eq l m).0 p.0) ∙ t) (equal_true v l ls p.1) (or_cases (literal_true v m) (clause_true v ls) e)
 
-only_true : (v : ℕ → Bool) (ls : List ℤ) (l : ℤ) → the_only ls ≡ Some l → clause_true v ls ≡ true
+pub only_true : (v : ℕ → Bool) (ls : List ℤ) (l : ℤ) → the_only ls ≡ Some l → clause_true v ls ≡ true
     → literal_true v l ≡ true
 only_true v [] l e t = absurd (false≢true t)
 only_true v (k ∷ ks) l e t =
@@ -77,13 +77,13 @@ joins : (v : ℕ → Bool) (set : List ℤ) (l : ℤ) → AllNegationsFalse v se
     → AllNegationsFalse v (l ∷ set)
 joins v set l a t m e = ⊎_elim (λ h. ap (λ z. literal_true v (neg_ℤ z)) ((Decides-int_eq m l).0 h) ∙ neg_of_true v l t) (a m) (or_cases (int_eq m l) (has set m) e)
 
-got_true : (v : ℕ → Bool) (known : List (List ℤ)) (k : ℕ) (c : List ℤ) → satisfies v known ≡ true
+pub got_true : (v : ℕ → Bool) (known : List (List ℤ)) (k : ℕ) (c : List ℤ) → satisfies v known ≡ true
     → slice_get known k ≡ Some c → clause_true v c ≡ true
 got_true v [] k c s e = absurd cc
 got_true v (d ∷ known) zero c s e = let q : d ≡ c = cc in ap (clause_true v) (sym q) ∙ (and_parts (clause_true v d) (satisfies v known) s).0
 got_true v (d ∷ known) (suc k) c s e = got_true v known k c (and_parts (clause_true v d) (satisfies v known) s).1 e
 
-numbered_true : (v : ℕ → Bool) (known : List (List ℤ)) (h : ℕ) (c : List ℤ) → satisfies v known ≡ true
+pub numbered_true : (v : ℕ → Bool) (known : List (List ℤ)) (h : ℕ) (c : List ℤ) → satisfies v known ≡ true
     → clause_numbered known h ≡ Some c → clause_true v c ≡ true
 numbered_true v known zero c s e = absurd cc
 numbered_true v known (suc k) c s e = got_true v known k c s e

@@ -1,0 +1,13 @@
+pub mod Trails
+pub mod Turns
+pub mod Measure
+pub mod Firsts
+pub mod Kept
+pub mod Exact
+pub mod Teaching
+pub mod Jumps
+pub mod Taught
+pub mod Beyond
+pub mod Tabled
+pub mod Printed
+pub mod Lemmas
