@@ -1,4 +1,5 @@
--- What the solver answers; how far clauses reach; the trail of the search; what a look over clauses tells; and what a conflict teaches.
+-- What the solver answers; how far clauses reach; the trail of the search, and the tables that are kept beside
+-- it; what a look at clauses tells; and what a conflict teaches.
 pub mod Answers
 pub mod Reach
 pub mod Trail

@@ -1,4 +1,10 @@
 //! A solver of clauses: the first list of states that satisfies them, or a log that refutes them.
+//!
+//! [`solve`] decides the least variable without a value, on first, and follows what each literal forces by
+//! the two literals that each clause watches. A conflict teaches steps of the log, and the search goes back
+//! to the last decision on which the conflict depends. It ends, since a weight of its trail grows at each
+//! turn. The answer is first among all lists, not only among those that were tried: each literal that was
+//! forced off under decisions of smaller variables is off in every list that satisfies and agrees with them.
 #![tactic(auto)]
 
 mod answers;
