@@ -2,8 +2,4 @@ mod Sets
 mod Numbering
 mod Hints
 mod Digits
-mod Signs
-mod LineEnds
-mod Header
-mod Stopped
 mod OneAnswer

@@ -1,4 +1,3 @@
 -- What ties the code of this crate to the definitions of `spec_refutation`.
 pub mod Members
-pub mod Scans
 pub mod Answers

@@ -3,7 +3,7 @@
 ghost use Rattle.std.specs.Prelude.{◌≡◌, ◌≤◌, ◌++◌, IfOk, IfSome, IfNone};
 ghost use Rattle.spec_refutation.specs.Text.{clause_line, step_line};
 ghost use Rattle.spec_refutation.specs.Reading.{IsClause, IsStep, NoClauseLine, NoStepLine};
-ghost use Rattle.feat_proof.specs.Scans.{LiteralsEnd, HintsEnd};
+ghost use Rattle.spec_refutation.specs.Scans.{LiteralsEnd, HintsEnd};
 
 use crate::clauses::Clause;
 use crate::faults::NoMemory;

@@ -4,7 +4,7 @@ ghost use Rattle.std.specs.Prelude.{◌≡◌, ◌≢◌, ◌+◌, ◌≤◌, �
 ghost use Rattle.std.specs.Bool.{OnTrue, OnFalse};
 ghost use Rattle.spec_refutation.specs.Derivation.{Step};
 ghost use Rattle.spec_refutation.specs.Reading.{Reads, IsFault};
-ghost use Rattle.feat_proof.specs.Scans.{ClausesEnd, StepsEnd, LinesEnd};
+ghost use Rattle.spec_refutation.specs.Scans.{ClausesEnd, StepsEnd, LinesEnd};
 ghost use Rattle.feat_proof.specs.Answers.{ReadsAs, RefusedAt};
 
 use crate::clauses::Clause;

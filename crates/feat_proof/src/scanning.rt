@@ -4,7 +4,7 @@ ghost use Rattle.std.specs.Prelude.{◌≡◌, ◌≢◌, ◌+◌, ◌*◌, ◌^
 ghost use Rattle.std.specs.Fmt.{signed_decimal};
 ghost use Rattle.spec_refutation.specs.Text.{begins_with_digit};
 ghost use Rattle.spec_refutation.specs.Reading.{IsLiteral};
-ghost use Rattle.feat_proof.specs.Scans.{Begins, NoNumber, NoSpacedNumber, NoLiteral, NoSpacedLiteral};
+ghost use Rattle.spec_refutation.specs.Scans.{Begins, NoNumber, NoSpacedNumber, NoLiteral, NoSpacedLiteral};
 
 use crate::literals::Lit;
 

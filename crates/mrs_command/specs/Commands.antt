@@ -9,6 +9,7 @@ use Rattle.mrs_command.specs.declared.commands.Request.TheVariants as code
 abbrev pub command_of : Verb → spec.Command
 command_of verb.List = spec.list_command
 command_of verb.Leaf = spec.leaf_command
+command_of verb.Proof = spec.proof_command
 
 abbrev pub release_of : Release → spec.Release
 release_of release = record { insns = release.insns.now; isa = release.isa.now }
@@ -16,3 +17,4 @@ release_of release = record { insns = release.insns.now; isa = release.isa.now }
 abbrev pub asked_of : Request → spec.Request
 asked_of (code.List release) = spec.AskList (release_of release)
 asked_of (code.Leaf release label) = spec.AskLeaf (release_of release) label.now
+asked_of (code.Proof log) = spec.AskProof log.now

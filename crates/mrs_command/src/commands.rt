@@ -25,6 +25,10 @@ pub enum Request<'a> {
         release: Release<'a>,
         label: &'a str,
     },
+    /// `proof` checks the log of that name.
+    Proof {
+        log: &'a str,
+    },
 }
 
 /// A command.
@@ -32,6 +36,7 @@ pub enum Request<'a> {
 pub(crate) enum Verb {
     List,
     Leaf,
+    Proof,
 }
 
 impl Verb {
@@ -42,6 +47,7 @@ impl Verb {
         match word {
             "list" => Some(Verb::List),
             "leaf" => Some(Verb::Leaf),
+            "proof" => Some(Verb::Proof),
             _ => None,
         }
     }
@@ -53,6 +59,7 @@ impl Verb {
         match self {
             Verb::List => &["insns", "isa"],
             Verb::Leaf => &["insns", "isa", "label"],
+            Verb::Proof => &["log"],
         }
     }
 
@@ -67,12 +74,19 @@ impl Verb {
     pub(crate) fn request<'a>(self, settings: &Settings<'a>) -> Option<Request<'a>>
         ensures { option_map asked_of result ≡ (command_of self).asks.value settings.now }
     {
-        let release = release_in(settings)?;
         match self {
-            Verb::List => Some(Request::List { release }),
+            Verb::List => {
+                let release = release_in(settings)?;
+                Some(Request::List { release })
+            }
             Verb::Leaf => {
+                let release = release_in(settings)?;
                 let label = settings.value("label")?;
                 Some(Request::Leaf { release, label })
+            }
+            Verb::Proof => {
+                let log = settings.value("log")?;
+                Some(Request::Proof { log })
             }
         }
     }

@@ -13,7 +13,7 @@ fn list<'a>(insns: &'a str, isa: &'a str) -> Result<Request<'a>, u64> {
 fn command_lines(rt: HostRuntime) -> Result<(), Fail> {
     let alloc = rt.alloc();
     // words that stand between spaces, and what they ask for, or the place of the first bad word
-    let table: [(&str, Result<Request<'_>, u64>); 24] = [
+    let table: [(&str, Result<Request<'_>, u64>); 28] = [
         ("", Err(0)),
         ("--help", Err(0)),
         ("List insns=i", Err(0)),
@@ -47,6 +47,10 @@ fn command_lines(rt: HostRuntime) -> Result<(), Fail> {
                 label: "x",
             }),
         ),
+        ("proof", Err(1)),
+        ("proof log=", Err(1)),
+        ("proof log=g insns=i", Err(2)),
+        ("proof log=g", Ok(Request::Proof { log: "g" })),
     ];
     for (line, want) in table {
         let mut words = Vec::new(alloc);

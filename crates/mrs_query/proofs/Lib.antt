@@ -6,3 +6,4 @@ pub mod Performing
 pub mod DownLaws
 pub mod BitLaws
 pub mod HexSteps
+pub mod Verdicts

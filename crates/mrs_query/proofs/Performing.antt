@@ -2,7 +2,7 @@
 use Rattle.std.proofs.Common.{◌≡◌, ◌≤◌, ℕ, List, Ok, Err, inl, inr, ap, arith}
 use Rattle.spec_command.specs.Commands.{Request}
 use Rattle.spec_command.specs.Request.{request}
-use Rattle.spec_run.specs.End.{End, Done, Ragged, Usage, Document as Refused, Question, ReadFault, WriteFault, Limit, NoMemory, Insns, Input, IsUsage}
+use Rattle.spec_run.specs.End.{End, Done, Ragged, Usage, Document as Refused, Question, ReadFault, WriteFault, Limit, NoMemory, Insns, Log, Input, IsUsage}
 use Rattle.spec_run.specs.Commands.{Needs, opened, work_of}
 use Rattle.spec_run.specs.Ran.{Ran}
 use Rattle.spec_run.specs.Scene.{Scene}
@@ -39,8 +39,10 @@ module _ (s : Scene) (asked : Request) where
   by_work (Question fault) h = h
   by_work (Limit Input) h = h
   by_work (Limit Insns) h = absurd h.ran.meaning
+  by_work (Limit Log) h = absurd h.ran.meaning
   by_work (ReadFault Input) h = h
   by_work (ReadFault Insns) h = absurd h.ran.meaning
+  by_work (ReadFault Log) h = absurd h.ran.meaning
   by_work WriteFault h = h
   by_work NoMemory h = record { shelf = h.shelf; reached = inr h }
   by_work (Usage place) h = absurd h.ran.meaning
@@ -49,8 +51,10 @@ module _ (s : Scene) (asked : Request) where
   -- nothing was opened
   by_opening : (e : OpeningError) → Opens (opened asked) s.shelf s.shelf_after (Err e) → Untouched s → Means s asked (ending e)
   by_opening (error.NotRead which.Insns) opens still = record { cause = opens; untouched = still }
+  by_opening (error.NotRead which.Log) opens still = record { cause = opens; untouched = still }
   by_opening (error.NotRead which.Input) opens still = absurd opens.0
   by_opening (error.TooLong which.Insns) opens still = record { cause = opens; untouched = still }
+  by_opening (error.TooLong which.Log) opens still = record { cause = opens; untouched = still }
   by_opening (error.TooLong which.Input) opens still = absurd opens.0
   by_opening (error.Refused which fault) opens still = record { cause = opens; untouched = still }
   by_opening error.NoMemory opens still = record { shelf = opens; reached = inl still }

@@ -322,7 +322,9 @@ module _ (paths : List (List Own)) where
     out_count = ol;
   }
   probed r0 r r1 w0 w (status.Limit which.Insns) il ol p h = absurd h
+  probed r0 r r1 w0 w (status.Limit which.Log) il ol p h = absurd h
   probed r0 r r1 w0 w (status.ReadFault which.Insns) il ol p h = absurd h
+  probed r0 r r1 w0 w (status.ReadFault which.Log) il ol p h = absurd h
   probed r0 r r1 w0 w (status.Ragged n) il ol p h = absurd h
   probed r0 r r1 w0 w status.NoMemory il ol p h = absurd h
   probed r0 r r1 w0 w status.WriteFault il ol p h = absurd h

@@ -12,11 +12,13 @@ use Rattle.mrs_query.specs.declared.status.Status.TheVariants as status
 
 abbrev pub which_of : Which → run.Which
 which_of which.Insns = run.Insns
+which_of which.Log = run.Log
 which_of which.Input = run.Input
 
 abbrev pub fault_of : DocFault → run.DocFault
 fault_of fault.Json = run.Json
 fault_of (fault.Schema f) = run.Schema (schema.fault_of f)
+fault_of (fault.Log at) = run.Syntax at
 
 abbrev pub question_of : QuestionFault → run.QuestionFault
 question_of question.NoLeaf = run.NoLeaf

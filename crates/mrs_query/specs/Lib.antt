@@ -7,3 +7,4 @@ pub mod Down
 pub mod Pieces
 pub mod Texts
 pub mod Wrote
+pub mod Verdict

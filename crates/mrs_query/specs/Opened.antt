@@ -7,6 +7,7 @@ use Rattle.serde_json.specs.View.{view}
 use Rattle.serde_json.specs.declared.value.Value.{Value}
 use Rattle.spec_run.specs.End as run
 use Rattle.spec_run.specs.Opening as opening
+use Rattle.spec_run.specs.Logs as logs
 use Rattle.spec_run.specs.Opens.{ShelfStill, Gives, Fails}
 use Rattle.mrs_query.specs.declared.opening.Unread.{Unread}
 use Rattle.mrs_query.specs.declared.opening.Unread.TheVariants as unread
@@ -25,6 +26,12 @@ abbrev pub Read : List ℕ → Option Data → Result opening.Opened Unread → 
 Read isa value (Ok opened) = opening.of_value isa value ≡ Ok opened
 Read isa value (Err (unread.Refused fault)) = opening.of_value isa value ≡ Err (opening.Refused run.Insns (fault_of fault))
 Read isa value (Err unread.NoMemory) = ⊤
+
+-- the log of a text
+abbrev pub ReadLog : List ℕ → Result logs.Checked Unread → Type 0
+ReadLog text (Ok log) = logs.of_text text ≡ Ok log
+ReadLog text (Err (unread.Refused fault)) = logs.of_text text ≡ Err (opening.Refused run.Log (fault_of fault))
+ReadLog text (Err unread.NoMemory) = ⊤
 
 -- what is made of the documents
 abbrev pub Opens : {A : Type 0} → (List Document → Result A opening.OpeningError) → Shelving → Shelving → Result A OpeningError → Type 0

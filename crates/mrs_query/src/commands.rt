@@ -7,12 +7,15 @@ ghost use Rattle.mrs_query.specs.Fulfilled.{Fulfils};
 
 mod leaf;
 mod list;
+mod proof;
 
 use crate::Status;
 use crate::commands::leaf::show_leaf;
 use crate::commands::list::list_stream;
+use crate::commands::proof::check_log;
 use crate::opening::open_release;
 use crate::opening_error::OpeningError;
+use crate::opening_log::open_log;
 use mrs_command::Request;
 use mrs_io::{Shelf, Sink, Source};
 use std::alloc::Global;
@@ -44,6 +47,10 @@ pub(crate) fn fulfil<V: Shelf, S: Source, K: Sink>(
         Request::Leaf { release, label } => {
             let opened = open_release(alloc, shelf, release)?;
             Ok(show_leaf(alloc, &opened, label, out))
+        }
+        Request::Proof { log } => {
+            let opened = open_log(alloc, shelf, log)?;
+            Ok(check_log(alloc, &opened, out))
         }
     }
 }

@@ -20,6 +20,7 @@ fn which_text(which: Which) -> &'static [u8]
 {
     match which {
         Which::Insns => b"insns",
+        Which::Log => b"log",
         Which::Input => b"input",
     }
 }
@@ -89,6 +90,22 @@ fn write_no_json<E: Sink>(err: &mut E, which: Which) -> Result<(), Failed>
     )
 }
 
+/// Writes the text of a log that is not as demanded at a byte.
+fn write_syntax<E: Sink>(err: &mut E, which: Which, at: u64) -> Result<(), Failed>
+    ensures { Wrote (E.writing err.old) (E.writing err.new) (message (run.Document (which_of which) (run.Syntax at))) result }
+{
+    write_parts(
+        err,
+        &[
+            b"document ".as_slice(),
+            which_text(which),
+            b" syntax ".as_slice(),
+            Buffer::new().format(at).as_bytes(),
+            b"\n".as_slice(),
+        ],
+    )
+}
+
 /// The parts of the text of a document's fault.
 fn fault_parts<'a>(
     which: &'a [u8],
@@ -146,6 +163,10 @@ fn write_message<E: Sink>(err: &mut E, status: &Status) -> Result<(), Failed>
             which,
             fault: DocFault::Schema(fault),
         } => write_fault(err, *which, fault),
+        Status::Document {
+            which,
+            fault: DocFault::Log { at },
+        } => write_syntax(err, *which, *at),
         Status::Question { fault } => write_two(err, question_text(*fault), b""),
         Status::ReadFault { which } => write_two(err, b"read ", which_text(*which)),
         Status::WriteFault => write_two(err, b"write out", b""),

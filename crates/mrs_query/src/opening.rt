@@ -17,7 +17,7 @@ use serde_json::Value;
 use std::alloc::Global;
 
 /// The greatest length of a document, in bytes.
-const DOCUMENT_LIMIT: u64 = 268_435_456;
+pub(crate) const DOCUMENT_LIMIT: u64 = 268_435_456;
 
 /// Why bytes are not read.
 #[derive(Drop, Debug)]

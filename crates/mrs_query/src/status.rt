@@ -5,10 +5,11 @@ ghost use Rattle.mrs_query.specs.End.{end_of};
 
 use mrs_schema::SchemaFault;
 
-/// What a status names: the Instructions document, or the stream.
+/// What a status names: the Instructions document, the log, or the stream.
 #[derive(Clone, Copy, Debug, PartialEq, Eq)]
 pub enum Which {
     Insns,
+    Log,
     Input,
 }
 
@@ -19,6 +20,8 @@ pub enum DocFault {
     Json,
     /// It leaves the profile; the fault is the first of the walk over it.
     Schema(SchemaFault),
+    /// It is no log's text; `at` is the first byte of the first line that is not as demanded.
+    Log { at: u64 },
 }
 
 /// Why a question has no answer.

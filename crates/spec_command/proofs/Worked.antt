@@ -1,7 +1,7 @@
 -- Worked values: command lines.
 use Rattle.std.specs.Prelude.{◌≡◌, [], ◌∷◌, Some, None, Ok, Err, codes, refl}
 use Rattle.spec_command.specs.Setting.{value_in}
-use Rattle.spec_command.specs.Commands.{AskList, AskLeaf, leaf_command}
+use Rattle.spec_command.specs.Commands.{AskList, AskLeaf, AskProof, leaf_command}
 use Rattle.spec_command.specs.Request.{request}
 
 no_word : request [] ≡ Err 0
@@ -40,6 +40,12 @@ label_alone = refl
 any_order : request (codes "leaf" ∷ codes "label=x" ∷ codes "insns=i" ∷ codes "isa=A64" ∷ [])
     ≡ Ok (AskLeaf (record { insns = codes "i"; isa = codes "A64" }) (codes "x"))
 any_order = refl
+
+a_log : request (codes "proof" ∷ codes "log=g" ∷ []) ≡ Ok (AskProof (codes "g"))
+a_log = refl
+
+no_log : request (codes "proof" ∷ []) ≡ Err 1
+no_log = refl
 
 set_alone : request (codes "list" ∷ codes "isa=X" ∷ []) ≡ Err 2
 set_alone = refl

@@ -11,6 +11,7 @@ pub record Release : Type 0 where
 pub data Request : Type 0 where
   AskList : Release → Request
   AskLeaf : Release → List ℕ → Request
+  AskProof : List ℕ → Request
 
 -- a command: the word that says it, and what it asks of the settings behind it
 pub record Command : Type 0 where
@@ -29,8 +30,12 @@ list_command = record { word = codes "list"; asks = made_into AskList release }
 abbrev pub leaf_command : Command
 leaf_command = record { word = codes "leaf"; asks = together AskLeaf release (needed (codes "label")) }
 
+-- checks a log
+abbrev pub proof_command : Command
+proof_command = record { word = codes "proof"; asks = made_into AskProof (needed (codes "log")) }
+
 abbrev pub commands : List Command
-commands = list_command ∷ leaf_command ∷ []
+commands = list_command ∷ leaf_command ∷ proof_command ∷ []
 
 -- the keys that several words may have: none
 abbrev pub repeatable : List (List ℕ)

@@ -6,3 +6,8 @@ pub mod Numbers
 pub mod Runs
 pub mod Lines
 pub mod Places
+pub mod Signs
+pub mod Header
+pub mod LineEnds
+pub mod Stopped
+pub mod Judging

@@ -1,11 +1,12 @@
 -- A number in decimal is told by its text where no digit follows.
-use Rattle.std.proofs.Common.{◌≡◌, ◌≢◌, ℕ, ◌+◌, ◌*◌, ◌/◌, ◌%◌, ◌^◌, ◌<◌, ◌≤◌, Bool, true, false, cond, List, [], ◌∷◌, ◌++◌, length, get_or, refl, sym, ap, ◌∙◌, ⊎_elim, arith}
-use Rattle.std.specs.Prelude.{decimal}
+use Rattle.std.proofs.Common.{◌≡◌, ◌≢◌, ◌⊎◌, inl, inr, ℕ, ◌+◌, ◌*◌, ◌/◌, ◌%◌, ◌^◌, ◌<◌, ◌≤◌, Bool, true, false, cond, List, [], ◌∷◌, ◌++◌, length, get_or, refl, sym, ap, ◌∙◌, ⊎_elim, arith}
+use Rattle.std.specs.Prelude.{decimal, bytes_eq}
 use Rattle.std.specs.Char.{digit_value, is_ascii_digit}
 use Rattle.std.specs.Str.Parse.{AllDigits, digits_value_after}
-use Rattle.std.proofs.lemmas.Bool.{both_ways, and_from, le-leb, cases_eq, cond-true, cond-false}
+use Rattle.std.proofs.lemmas.Bool.{both_ways, and_from, le-leb, cases_eq, cases_lt, cases_Bool, cond-true, cond-false}
 use Rattle.std.proofs.lemmas.Bool.Decides.{nat_tests}
 use Rattle.std.proofs.lemmas.Str.Parse.{digit_from_value}
+use Rattle.std.proofs.lemmas.Slice.Eq.{bytes_eq-Decides}
 use Rattle.std.proofs.lemmas.Fmt.{decimal_is_IsNumeral, decimal_digit, decimal_step, decimal_nonempty, first_decimal}
 use Rattle.std.proofs.lemmas.List.{get_or_append_left}
 use Rattle.spec_refutation.specs.Text.{begins_with_digit}
@@ -101,3 +102,36 @@ no_leading_zero n t rest h more stop e = ⊎_elim zero_case other_case (cases_eq
         let first : get_or (decimal n ++ rest) 0 0 ≡ get_or (decimal n) 0 0 = get_or_append_left (decimal n) rest 0 0 (decimal_nonempty n h) in
         let p : 48 ≡ get_or (decimal n) 0 0 = ap (λ bs. get_or bs 0 0) e ∙ first in
         omega (arith, p, first_decimal n (omega arith) h)
+
+-- the number at the front of a text
+pub record NumberAt (text : List ℕ) : Type 0 where
+  pub number : ℕ
+  pub rest : List ℕ
+  pub fits : number < 2 ^ 64
+  pub read : text ≡ decimal number ++ rest
+  pub stop : begins_with_digit rest ≡ false
+
+-- there is one, or none
+pub number_or_none : (text : List ℕ)
+    → NumberAt text ⊎ ((n : ℕ) (rest : List ℕ) → n < 2 ^ 64 → begins_with_digit rest ≡ false → text ≢ decimal n ++ rest)
+number_or_none text = judge (number_from 0 text).0 (number_from 0 text).1
+    (λ m rest fits stop e. ap (λ p. p.0) (whole m rest fits stop e)) (λ m rest fits stop e. ap (λ p. p.1) (whole m rest fits stop e))
+  where
+    whole : (m : ℕ) (rest : List ℕ) → m < 2 ^ 64 → begins_with_digit rest ≡ false → text ≡ decimal m ++ rest
+        → number_from 0 text ≡ (m, rest)
+    whole m rest fits stop e = ap (number_from 0) e ∙ number_from-decimal m rest fits ∙ number_from-stop m rest stop
+
+    judge : (n : ℕ) (left : List ℕ)
+        → ((m : ℕ) (rest : List ℕ) → m < 2 ^ 64 → begins_with_digit rest ≡ false → text ≡ decimal m ++ rest → n ≡ m)
+        → ((m : ℕ) (rest : List ℕ) → m < 2 ^ 64 → begins_with_digit rest ≡ false → text ≡ decimal m ++ rest → left ≡ rest)
+        → NumberAt text ⊎ ((m : ℕ) (rest : List ℕ) → m < 2 ^ 64 → begins_with_digit rest ≡ false → text ≢ decimal m ++ rest)
+    judge n left same_n same_left = ⊎_elim (λ fits. ⊎_elim
+        (λ goes. inr (λ m rest small stop e. both_ways (begins_with_digit rest) stop (sym (ap begins_with_digit (same_left m rest small stop e)) ∙ goes)))
+        (λ ends. ⊎_elim
+        (λ same. inl (record { number = n; rest = left; fits = fits; read = (bytes_eq-Decides text (decimal n ++ left)).0 same; stop = ends }))
+        (λ other. inr (λ m rest small stop e. both_ways (bytes_eq text (decimal n ++ left)) other
+        ((bytes_eq-Decides text (decimal n ++ left)).1 (e ∙ ap (λ k. decimal k ++ rest) (sym (same_n m rest small stop e)) ∙ ap (λ t. decimal n ++ t) (sym (same_left m rest small stop e))))))
+        (cases_Bool (bytes_eq text (decimal n ++ left))))
+        (cases_Bool (begins_with_digit left)))
+        (λ large. inr (λ m rest small stop e. let q : n ≡ m = same_n m rest small stop e in omega arith))
+        (cases_lt n (2 ^ 64))

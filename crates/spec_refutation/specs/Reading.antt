@@ -85,3 +85,15 @@ pub record StopsAt (text : List ℕ) (at : ℕ) : Type 0 where
 -- The first line is not as demanded, or a later place is not.
 abbrev pub IsFault : List ℕ → ℕ → Type 0
 IsFault text at = ((at ≡ 0) × NoFirstLine text) ⊎ StopsAt text at
+
+-- The log whose text this is.
+pub record LogIn (text : List ℕ) : Type 0 where
+  pub vars : ℕ
+  pub clauses : List (List ℤ)
+  pub steps : List Step
+  pub reads : Reads text vars clauses steps
+
+-- The place at which a text is not as demanded.
+pub record FaultIn (text : List ℕ) : Type 0 where
+  pub at : ℕ
+  pub is : IsFault text at

@@ -5,7 +5,7 @@ ghost use Rattle.std.specs.List.{AllByRecursion};
 ghost use Rattle.spec_refutation.specs.Literals.{satisfies};
 ghost use Rattle.spec_refutation.specs.Derivation.{Step};
 ghost use Rattle.spec_refutation.specs.Refutation.{Refutes, Fails};
-ghost use Rattle.spec_refutation.specs.Reading.{IsHint, Reads, IsFault};
+ghost use Rattle.spec_refutation.specs.Reading.{IsHint, Reads, IsFault, LogIn, FaultIn};
 
 /// Where a log refutes clauses, no assignment satisfies them.
 pub fn refutations_are_sound()
@@ -28,6 +28,11 @@ pub fn each_log_has_one_outcome()
         → Refutes clauses steps → Fails clauses steps n → ⊥ }
     ensures one { (clauses : List (List ℤ)) (steps : List Step) (m n : ℕ)
         → Fails clauses steps m → Fails clauses steps n → m ≡ n }
+{}
+
+/// Each text is that of a log, or it has a place at which it is not as demanded.
+pub fn each_text_has_a_reading()
+    ensures { (text : List ℕ) → LogIn text ⊎ FaultIn text }
 {}
 
 /// A text is that of one log at most. It has one fault at most, and none where it is a log's.

@@ -9,7 +9,7 @@ use Rattle.spec_io.specs.Documents.{Document as Named}
 use Rattle.spec_io.specs.States.{Reading, Writing}
 use Rattle.spec_command.specs.Commands.{Request}
 use Rattle.spec_command.specs.Request.{request}
-use Rattle.spec_run.specs.End.{End, Done, Ragged, Usage, Document, Question, ReadFault, WriteFault, Limit, NoMemory, Insns, Input, IsEarly}
+use Rattle.spec_run.specs.End.{End, Done, Ragged, Usage, Document, Question, ReadFault, WriteFault, Limit, NoMemory, Which, Insns, Log, Input, IsEarly}
 use Rattle.spec_run.specs.Opening.{OpeningError, NotRead, TooLong, Refused, end_by}
 use Rattle.spec_run.specs.Work.{Outcome, Work, Once, Reads, Over, outcome_of}
 use Rattle.spec_run.specs.Commands.{opened, work_of}
@@ -82,9 +82,11 @@ never_early input input_after out out_after over (Usage place) fits h early = h.
 never_early input input_after out out_after over (Document which fault) fits h early = h.meaning
 never_early input input_after out out_after over (Question fault) fits h early = fits.late h.meaning.0 (subst IsEarly (sym h.meaning.2.0) early)
 never_early input input_after out out_after over (ReadFault Insns) fits h early = h.meaning
+never_early input input_after out out_after over (ReadFault Log) fits h early = h.meaning
 never_early input input_after out out_after over (ReadFault Input) fits h early = early
 never_early input input_after out out_after over WriteFault fits h early = early
 never_early input input_after out out_after over (Limit Insns) fits h early = h.meaning
+never_early input input_after out out_after over (Limit Log) fits h early = h.meaning
 never_early input input_after out out_after over (Limit Input) fits h early = early
 never_early input input_after out out_after over NoMemory fits h early = early
 
@@ -126,10 +128,10 @@ module _ (words : List (List ℕ)) (s : Scene) (docs : List Named) (bytes : List
     by_opening error opens still = nothing (end_by error) (refused error (told s.shelf.documents docs _ d opens)) still.out
 
     -- a document that is not there, where the shelf's count did not rise
-    unfetched : Fails (opened asked) s.shelf s.shelf_after (NotRead Insns) → ¬ Rose s.shelf.faults s.shelf_after.faults → (outcome words docs bytes).end ≡ ReadFault Insns
-    unfetched cause still = elim cause.1 [
+    unfetched : (which : Which) → Fails (opened asked) s.shelf s.shelf_after (NotRead which) → ¬ Rose s.shelf.faults s.shelf_after.faults → (outcome words docs bytes).end ≡ ReadFault which
+    unfetched which cause still = elim cause.1 [
       | inl rose ↦ absurd (still rose)
-      | inr none ↦ ap (λ o. o.end) (refused (NotRead Insns) (told_and s.shelf.documents docs (λ docs. opened asked docs ≡ Err (NotRead Insns)) d none))
+      | inr none ↦ ap (λ o. o.end) (refused (NotRead which) (told_and s.shelf.documents docs (λ docs. opened asked docs ≡ Err (NotRead which)) d none))
     ]
 
     -- the outcome where it is opened
@@ -152,12 +154,14 @@ module _ (words : List (List ℕ)) (s : Scene) (docs : List Named) (bytes : List
     exact (ReadFault which) h a = absurd a
     exact WriteFault h a = absurd a
     exact (Limit Insns) h a = by_opening (TooLong Insns) h.cause.1 h.untouched
+    exact (Limit Log) h a = by_opening (TooLong Log) h.cause.1 h.untouched
     exact (Limit Input) h a = whole (Limit Input) h h.ran.meaning
     exact NoMemory h a = absurd a
 
     complete : (end : End) → Means s asked end → ¬ Rose s.shelf.faults s.shelf_after.faults → ¬ Rose s.input.faults s.input_after.faults → ¬ Rose s.out.faults s.out_after.faults → ((outcome words docs bytes).end ≡ end) ⊎ (end ≡ NoMemory)
     complete NoMemory h shelf input out = inr refl
-    complete (ReadFault Insns) h shelf input out = inl (unfetched h.cause shelf)
+    complete (ReadFault Insns) h shelf input out = inl (unfetched Insns h.cause shelf)
+    complete (ReadFault Log) h shelf input out = inl (unfetched Log h.cause shelf)
     complete (ReadFault Input) h shelf input out = absurd (input (source_rose s.input s.input_after s.out s.out_after (work_of asked h.found) h.ran.meaning))
     complete WriteFault h shelf input out = absurd (out h.ran.meaning.0)
     complete Done h shelf input out = inl (exact Done h tt).0
@@ -175,6 +179,7 @@ module _ (words : List (List ℕ)) (s : Scene) (docs : List Named) (bytes : List
         let short = outcome_told s.input s.input_after s.out s.out_after bytes l work (λ o. TookShort s.out s.out_after o.out) h.ran.meaning.1 in
         late_write s.input s.input_after s.out s.out_after bytes l work (works_fit asked h.found) short (subst (λ o. IsEarly o.end) (accepted WriteFault h) early)
     late (ReadFault Insns) h is early = is
+    late (ReadFault Log) h is early = is
     late Done h is early = is
     late (Ragged rest) h is early = is
     late (Usage place) h is early = is
@@ -200,6 +205,7 @@ module _ (words : List (List ℕ)) (s : Scene) (docs : List Named) (bytes : List
     cut WriteFault h is = short_is_prefix s.input s.input_after s.out s.out_after bytes l _ (by_work WriteFault (λ o. TookShort s.out s.out_after o.out) h h.ran.meaning.1)
     cut NoMemory h is = cut_short h
     cut (ReadFault Insns) h is = absurd is
+    cut (ReadFault Log) h is = absurd is
     cut Done h is = absurd is
     cut (Ragged rest) h is = absurd is
     cut (Usage place) h is = absurd is

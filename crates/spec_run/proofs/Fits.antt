@@ -7,7 +7,7 @@ use Rattle.spec_instructions.specs.Tree.{Own}
 use Rattle.spec_instructions.specs.Paths.{labelled_leaf}
 use Rattle.spec_lines.specs.Listing.{words_in, rest_in, listing, rest_line, stream_lines}
 use Rattle.spec_lines.proofs.Streams.{words_in-front, listing-append}
-use Rattle.spec_command.specs.Commands.{AskList, AskLeaf}
+use Rattle.spec_command.specs.Commands.{AskList, AskLeaf, AskProof}
 use Rattle.spec_run.specs.End.{IsEarly, Limit, Input}
 use Rattle.spec_run.specs.Work.{Outcome}
 use Rattle.spec_run.specs.Commands.{stream_end, stream_limit, stream_outcome, list_work, leaf_outcome}
@@ -60,3 +60,4 @@ leaf_fits paths (Some k) early = absurd early
 pub works_fit : WorksFit
 works_fit (AskList release) opened = list_fits opened.paths
 works_fit (AskLeaf release label) opened = leaf_fits opened.paths (labelled_leaf opened.paths label)
+works_fit (AskProof log) opened = λ early. absurd early

@@ -5,20 +5,23 @@ use Rattle.spec_instructions.specs.Tree.{Own}
 use Rattle.spec_instructions.specs.Paths.{labelled_leaf}
 use Rattle.spec_lines.specs.Listing.{words_in, rest_in, listing, stream_lines}
 use Rattle.spec_lines.specs.Leaf.{leaf_text}
-use Rattle.spec_command.specs.Commands.{Request, AskList, AskLeaf}
+use Rattle.spec_command.specs.Commands.{Request, AskList, AskLeaf, AskProof}
 use Rattle.spec_run.specs.End.{End, Done, Ragged, Question, NoLeaf, Limit, Input}
 use Rattle.spec_run.specs.Opening.{Opened, OpeningError, release_opened}
+use Rattle.spec_run.specs.Logs.{Checked, log_opened, log_outcome}
 use Rattle.spec_run.specs.Work.{Outcome, Over, Work, Once, Reads}
 
 -- what is opened for a command
 abbrev pub Needs : Request → Type 0
 Needs (AskList release) = Opened
 Needs (AskLeaf release label) = Opened
+Needs (AskProof log) = Checked
 
 -- what the documents make of it, or why it is not opened
 abbrev pub opened : (asked : Request) → List Named → Result (Needs asked) OpeningError
 opened (AskList release) docs = release_opened release docs
 opened (AskLeaf release label) docs = release_opened release docs
+opened (AskProof log) docs = log_opened log docs
 
 -- ---- `list`
 
@@ -50,3 +53,4 @@ leaf_outcome paths (Some k) = record { end = Done; out = leaf_text paths k }
 abbrev pub work_of : (asked : Request) → Needs asked → Work
 work_of (AskList release) opened = Reads (list_work opened.paths)
 work_of (AskLeaf release label) opened = Once (leaf_outcome opened.paths (labelled_leaf opened.paths label))
+work_of (AskProof log) opened = Once (log_outcome opened)

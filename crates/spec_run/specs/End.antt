@@ -2,15 +2,17 @@
 use Rattle.std.specs.Prelude.{ℕ, List, [], ◌∷◌, ◌++◌, codes, decimal, ⊤}
 use Rattle.spec_walk.specs.Event.{Fault, Why, Missing, UnlistedKind, WrongShape, BadPattern, BadRange, BadName, Doubled, TooMany, NoSet, NotYet}
 
--- what a status names: the Instructions document, or the stream
+-- what a status names: the Instructions document, the log, or the stream
 pub data Which : Type 0 where
   Insns : Which
+  Log : Which
   Input : Which
 
--- a document has no JSON reading, or the walk over it has this first fault
+-- a document has no JSON reading, or the walk over it has this first fault; a log is not as demanded at this byte
 pub data DocFault : Type 0 where
   Json : DocFault
   Schema : Fault → DocFault
+  Syntax : ℕ → DocFault
 
 -- a question has no answer: no leaf has the label
 pub data QuestionFault : Type 0 where
@@ -40,7 +42,9 @@ IsEarly (Usage place) = ⊤
 IsEarly (Document which fault) = ⊤
 IsEarly (Question fault) = IsAsked fault
 IsEarly (ReadFault Insns) = ⊤
+IsEarly (ReadFault Log) = ⊤
 IsEarly (Limit Insns) = ⊤
+IsEarly (Limit Log) = ⊤
 IsEarly end = ⊥
 
 -- the words were refused
@@ -63,6 +67,7 @@ exit_number NoMemory = 9
 
 abbrev pub which_text : Which → List ℕ
 which_text Insns = codes "insns"
+which_text Log = codes "log"
 which_text Input = codes "input"
 
 abbrev pub why_text : Why → List ℕ
@@ -77,10 +82,11 @@ why_text TooMany = codes "many"
 why_text NoSet = codes "no-set"
 why_text NotYet = codes "not-yet"
 
--- `json`, or the reason and the JSON Pointer of the place
+-- `json`, or the reason and the JSON Pointer of the place, or `syntax` and the byte
 abbrev pub fault_text : DocFault → List ℕ
 fault_text Json = codes "json"
 fault_text (Schema fault) = why_text fault.why ++ 32 ∷ fault.at
+fault_text (Syntax at) = codes "syntax " ++ decimal at
 
 abbrev pub question_text : QuestionFault → List ℕ
 question_text NoLeaf = codes "leaf"

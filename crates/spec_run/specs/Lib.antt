@@ -2,6 +2,7 @@ pub mod End
 pub mod Opening
 pub mod Opens
 pub mod Work
+pub mod Logs
 pub mod Commands
 pub mod Outcome
 pub mod Scene

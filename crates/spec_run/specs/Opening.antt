@@ -43,9 +43,13 @@ of_value isa (Some d) = walked (paths_read isa [] d)
 abbrev pub document_limit : ℕ
 document_limit = 268435456
 
+-- what its bytes give, where a document is there and within the limit
+abbrev pub by_bytes : {A : Type 0} → Which → (List ℕ → Result A OpeningError) → Option (List ℕ) → Result A OpeningError
+by_bytes which given None = Err (NotRead which)
+by_bytes which given (Some bytes) = if nat_lt document_limit (length bytes) then Err (TooLong which) else given bytes
+
 abbrev pub of_document : List ℕ → Option (List ℕ) → Result Opened OpeningError
-of_document isa None = Err (NotRead Insns)
-of_document isa (Some bytes) = if nat_lt document_limit (length bytes) then Err (TooLong Insns) else of_value isa (json_in bytes)
+of_document isa document = by_bytes Insns (λ bytes. of_value isa (json_in bytes)) document
 
 -- the set of a document of that name
 abbrev pub release_opened : Release → List Named → Result Opened OpeningError

@@ -1,4 +1,4 @@
-use Rattle.feat_proof.proofs.Header.{no_clauses_count, no_steps_count, no_first_end, too_many_lines}
+use Rattle.spec_refutation.proofs.Header.{no_clauses_count, no_steps_count, no_first_end, too_many_lines}
 use Rattle.feat_proof.proofs.counts.first_line.Goals as goal
 
 pub returns-in_err-clauses-clause-none : goal.returns-in_err-clauses-clause-none

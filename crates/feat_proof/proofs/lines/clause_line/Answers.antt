@@ -1,4 +1,4 @@
-use Rattle.feat_proof.proofs.LineEnds.{clause_unended}
+use Rattle.spec_refutation.proofs.LineEnds.{clause_unended}
 use Rattle.feat_proof.proofs.lines.clause_line.Goals as goal
 
 pub returns-in_default-after-clause-none : goal.returns-in_default-after-clause-none

@@ -1,4 +1,4 @@
-use Rattle.feat_proof.proofs.Stopped.{stopped}
+use Rattle.spec_refutation.proofs.Stopped.{stopped}
 use Rattle.feat_proof.proofs.reading.parsed.Goals as goal
 
 pub returns-clause-syntax : goal.returns-clause-syntax

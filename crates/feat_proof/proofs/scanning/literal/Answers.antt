@@ -1,5 +1,5 @@
 use Rattle.std.proofs.Common.{arith}
-use Rattle.feat_proof.proofs.Signs.{no_minus_literal}
+use Rattle.spec_refutation.proofs.Signs.{no_minus_literal}
 use Rattle.feat_proof.proofs.scanning.literal.Goals as goal
 
 pub returns-in_err-variable-in-Some-clause-none : goal.returns-in_err-variable-in-Some-clause-none

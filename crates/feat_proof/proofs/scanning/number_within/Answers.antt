@@ -1,5 +1,5 @@
 use Rattle.std.proofs.Common.{⊎_elim, arith}
-use Rattle.feat_proof.proofs.Signs.{outside}
+use Rattle.spec_refutation.proofs.Signs.{outside}
 use Rattle.feat_proof.proofs.scanning.number_within.Goals as goal
 
 pub returns-then-number-least-clause-none : goal.returns-then-number-least-clause-none

@@ -1,7 +1,7 @@
 use Rattle.std.proofs.Common.{refl}
 use Rattle.std.proofs.KnownBytes.{Keeps-refl}
 use Rattle.std.proofs.lemmas.Result.{err_from_is_err_and}
-use Rattle.spec_command.specs.Commands.{AskList, AskLeaf}
+use Rattle.spec_command.specs.Commands.{AskList, AskLeaf, AskProof}
 use Rattle.spec_run.proofs.Exact.{never_early}
 use Rattle.spec_run.proofs.Fits.{list_fits}
 use Rattle.mrs_command.specs.Commands.{release_of}
@@ -32,3 +32,14 @@ pub returns-in_ok-opened-in-Leaf-clause-fulfils : goal.returns-in_ok-opened-in-L
 returns-in_ok-opened-in-Leaf-clause-fulfils g c =
     let o = c.in_ok-opened-in-Leaf in
     rw c.in-Leaf.is (work_done _ (AskLeaf (release_of c.in-Leaf.release) c.in-Leaf.label.now) o.opened c.show_leaf.result o.ensures.opens o.ensures.same (c.show_leaf.ensures.ended _))
+
+pub returns-in_err-opened-in-Proof-clause-fulfils : goal.returns-in_err-opened-in-Proof-clause-fulfils
+returns-in_err-opened-in-Proof-clause-fulfils g c =
+    let e = c.in_err-opened-in-Proof in
+    let p = err_from_is_err_and c.from_residual-in_err-opened-in-Proof.result c.from_residual-in_err-opened-in-Proof.ensures.1 in
+    rw (c.in-Proof.is, p.1, p.2) (not_opened _ (AskProof c.in-Proof.log.now) e.field-0.0 e.ensures.opens e.ensures.same e.ensures.later (record { input = refl; out = Keeps-refl _; count = refl }))
+
+pub returns-in_ok-opened-in-Proof-clause-fulfils : goal.returns-in_ok-opened-in-Proof-clause-fulfils
+returns-in_ok-opened-in-Proof-clause-fulfils g c =
+    let o = c.in_ok-opened-in-Proof in
+    rw c.in-Proof.is (work_done _ (AskProof c.in-Proof.log.now) o.opened c.check_log.result o.ensures.opens o.ensures.same (c.check_log.ensures.ended _))

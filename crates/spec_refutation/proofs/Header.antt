@@ -6,10 +6,10 @@ use Rattle.spec_refutation.specs.Text.{begins_with_digit, spaced_numbers, first_
 use Rattle.spec_refutation.specs.Reading.{AreCounts, NoFirstLine}
 use Rattle.spec_refutation.proofs.Numbers.{same_number}
 use Rattle.spec_refutation.proofs.Lines.{tails, first_line_is}
-use Rattle.feat_proof.specs.Scans.{NoSpacedNumber}
+use Rattle.spec_refutation.specs.Scans.{NoSpacedNumber}
 
 -- the counts in a first line, each after a space
-spaced_counts : (w d k : ℕ) (z : List ℕ)
+pub spaced_counts : (w d k : ℕ) (z : List ℕ)
     → spaced_numbers (w ∷ d ∷ k ∷ []) ++ z ≡ (32 ∷ decimal w) ++ ((32 ∷ decimal d) ++ ((32 ∷ decimal k) ++ z))
 spaced_counts w d k z =
     append_assoc (32 ∷ decimal w) ((32 ∷ decimal d) ++ ((32 ∷ decimal k) ++ [])) z

@@ -5,7 +5,7 @@ use Rattle.std.proofs.lemmas.Bool.{both_ways}
 use Rattle.spec_refutation.specs.Text.{begins_with_digit}
 use Rattle.spec_refutation.proofs.Numbers.{begins-decimal, same_number}
 use Rattle.spec_refutation.proofs.Lines.{tails}
-use Rattle.feat_proof.specs.Scans.{NoNumber, NoLiteral}
+use Rattle.spec_refutation.specs.Scans.{NoNumber, NoLiteral}
 
 -- a number outside the bounds is no other number within
 pub outside : (least most m : ℕ) (text t : List ℕ) → m < 2 ^ 64 → most < 2 ^ 64 → begins_with_digit t ≡ false

@@ -7,7 +7,7 @@ use Rattle.spec_refutation.specs.Derivation.{Step}
 use Rattle.spec_refutation.specs.Text.{first_line, clause_line, step_line}
 use Rattle.spec_refutation.specs.Reading.{AreCounts, Stops, IsFault}
 use Rattle.spec_refutation.specs.Reading.Stops.{at_clause, at_step, at_end}
-use Rattle.feat_proof.specs.Scans.{LinesEnd}
+use Rattle.spec_refutation.specs.Scans.{LinesEnd}
 
 module _ (v c s : ℕ) (t : List ℕ) (cs : List (List ℤ)) (ss : List Step) (rest : List ℕ) (lines : LinesEnd v c s t cs ss rest) where
   stops : (length cs ≡ c → length ss ≡ s → rest ≢ []) → Stops v c s cs ss rest

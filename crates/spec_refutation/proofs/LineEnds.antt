@@ -4,7 +4,7 @@ use Rattle.spec_refutation.specs.Derivation.{Step}
 use Rattle.spec_refutation.specs.Text.{step_line, spaced_numbers}
 use Rattle.spec_refutation.specs.Reading.{IsHint, IsStep, NoClauseLine, NoStepLine}
 use Rattle.spec_refutation.proofs.Lines.{tails, same_literals, same_numbers, no_literal_at_end, no_literal_at_colon, no_number_at_end, clause_line_is, step_line_is}
-use Rattle.feat_proof.specs.Scans.{LiteralsEnd, HintsEnd}
+use Rattle.spec_refutation.specs.Scans.{LiteralsEnd, HintsEnd}
 
 module _ (vars : ℕ) (few : vars ≤ 2147483647) (text t : List ℕ) (ls : List ℤ) (r : List ℕ) (literals : LiteralsEnd vars t ls r) where
   -- after a clause's literals
