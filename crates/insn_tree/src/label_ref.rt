@@ -1,6 +1,6 @@
 //! Labels of leaves.
 
-ghost use Rattle.std.specs.Prelude.{◌≡◌, ◌++◌, OnOk};
+ghost use Rattle.std.specs.Prelude.{◌≡◌, ◌++◌, length, take, OnOk, OnErr};
 ghost use Rattle.insn_tree.specs.Trees.{label_text};
 
 use itoa::Buffer;
@@ -14,9 +14,10 @@ pub struct LabelRef<'a> {
 }
 
 impl<'a> LabelRef<'a> {
-    /// Puts the label's text behind what was written.
+    /// Puts the label's text behind what was written, which stays in front where memory runs out.
     pub fn push_onto(&self, out: &mut Vec<u8>) -> Result<(), AllocError>
-        ensures { OnOk result (out.new.items ≡ out.old.items ++ label_text self.now) }
+        ensures text { OnOk result (out.new.items ≡ out.old.items ++ label_text self.now) }
+        ensures front { OnErr result (take (length out.old.items) out.new.items ≡ out.old.items) }
     {
         out.extend_from_slice(self.name.as_bytes())?;
         if let Some(number) = self.number {
