@@ -11,7 +11,7 @@ use Rattle.mrs_arena.specs.declared.kind.Kind.{Kind}
 use Rattle.mrs_arena.specs.declared.kind.Kind.TheVariants.{Set, Group, Leaf, Alias}
 use Rattle.mrs_arena.specs.Flat.{FlatItem, FlatNode}
 use Rattle.mrs_arena.specs.Paths.{IsPlace, IsPreorder}
-use Rattle.mrs_arena.specs.Nodes.{parents_of, last_items, named_on, new_node, is_taken, has_name_id}
+use Rattle.mrs_arena.specs.Nodes.{parents_of, last_items, named_on, is_taken, has_name_id}
 use Rattle.mrs_arena.specs.Limits.{is_leaf, is_alias, leaf_count, alias_count, is_kind_full, is_node_refused, is_item_refused}
 use Rattle.mrs_arena.specs.Formed.{IsItem, HaveOwnNames, AreItems, AreNodes}
 use Rattle.mrs_arena.proofs.PreorderLaws.{IsPlace-lt, IsPreorder-none, IsPreorder-push}
@@ -94,20 +94,20 @@ named_below nodes node before last n h = go (cases_lt n (length nodes))
         let same : length nodes ≡ n = omega (arith, length_push nodes node) in
         omega (arith, ap (λ k. named_on (nodes ++ node ∷ []) k) same, named_on-push nodes node)
 
-pub AreNodes-push : (nodes : List FlatNode) (kind : Kind) (name : ℕ) (parent : Option ℕ) → AreNodes nodes → IsPlace (parents_of nodes) parent → is_node_refused nodes kind ≡ false
-    → AreNodes (nodes ++ new_node kind name parent ∷ [])
-AreNodes-push nodes kind name parent are place room =
-    let node = new_node kind name parent in
-    let parts = or_parts (nat_le node_limit (length nodes)) (is_kind_full kind (leaf_count nodes) (alias_count nodes)) room in
-    let leaves = leaf_room kind (leaf_count nodes) (alias_count nodes) parts.1 are.few_leaves in
-    let aliases = alias_room kind (leaf_count nodes) (alias_count nodes) parts.1 are.few_aliases in
+pub AreNodes-push : (nodes : List FlatNode) (node : FlatNode) → AreNodes nodes → node.items ≡ [] → IsPlace (parents_of nodes) node.parent → is_node_refused nodes node.kind ≡ false
+    → AreNodes (nodes ++ node ∷ [])
+AreNodes-push nodes node are none place room =
+    let parts = or_parts (nat_le node_limit (length nodes)) (is_kind_full node.kind (leaf_count nodes) (alias_count nodes)) room in
+    let leaves = leaf_room node.kind (leaf_count nodes) (alias_count nodes) parts.1 are.few_leaves in
+    let aliases = alias_room node.kind (leaf_count nodes) (alias_count nodes) parts.1 are.few_aliases in
+    let unnamed : named_in node.items ≡ 0 = ap named_in none in
     record {
       few = omega (arith, length_push nodes node, leb-false node_limit (length nodes) parts.0);
       few_leaves = omega (arith, leaf_count-push nodes node);
       few_aliases = omega (arith, alias_count-push nodes node);
-      preorder = subst IsPreorder (sym (parents_of-append nodes (node ∷ []))) (IsPreorder-push (parents_of nodes) parent are.preorder place);
-      items = All-push HasItems nodes node are.items AreItems-none;
-      few_named = named_below nodes node are.few_named (omega (arith, named_up-le nodes are parent place));
+      preorder = subst IsPreorder (sym (parents_of-append nodes (node ∷ []))) (IsPreorder-push (parents_of nodes) node.parent are.preorder place);
+      items = All-push HasItems nodes node are.items (subst AreItems (sym none) AreItems-none);
+      few_named = named_below nodes node are.few_named (omega (arith, unnamed, named_up-le nodes are node.parent place));
     }
 
 -- the last node and one more item of it

@@ -2,6 +2,7 @@ pub mod PathLaws
 pub mod PreorderLaws
 pub mod EndLaws
 pub mod AlongLaws
+pub mod LastOneLaws
 pub mod NodeLaws
 pub mod HeldLaws
 pub mod PutLaws

@@ -5,6 +5,7 @@ use Rattle.std.proofs.lemmas.List.{map-append, length-map, length_push}
 use Rattle.std.proofs.lemmas.List.Sums.{sum_by-append}
 use Rattle.mrs_arena.specs.Flat.{FlatItem, FlatNode}
 use Rattle.mrs_arena.specs.Nodes.{parents_of, node_items, last_items, items_upward, named_on, with_item}
+use Rattle.mrs_arena.proofs.LastOneLaws.{at_last-push}
 use Rattle.mrs_arena.proofs.AlongLaws.{parts_at-append, parts_at-push, parts_along-append, parts_up, parts_along-push}
 
 -- ---- parents and items
@@ -76,6 +77,4 @@ named_on-push nodes node =
 -- ---- one more item at the last node
 
 pub with_item-push : (it : FlatItem) (nodes : List FlatNode) (node : FlatNode) → with_item it (nodes ++ node ∷ []) ≡ nodes ++ (record node { items = node.items ++ it ∷ [] }) ∷ []
-with_item-push it [] node = refl
-with_item-push it (first ∷ []) node = refl
-with_item-push it (first ∷ second ∷ rest) node = ap (λ nodes. first ∷ nodes) (with_item-push it (second ∷ rest) node)
+with_item-push it nodes node = at_last-push _ nodes node

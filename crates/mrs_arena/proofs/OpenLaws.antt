@@ -13,7 +13,7 @@ use Rattle.mrs_arena.specs.declared.node_id.NodeId.{NodeId}
 use Rattle.mrs_arena.specs.Flat.{FlatNode}
 use Rattle.mrs_arena.specs.Views.{flat_item}
 use Rattle.mrs_arena.specs.Paths.{IsPlace}
-use Rattle.mrs_arena.specs.Nodes.{parents_of, named_on, new_node, is_taken}
+use Rattle.mrs_arena.specs.Nodes.{parents_of, named_on, is_taken}
 use Rattle.mrs_arena.specs.Limits.{is_leaf, is_alias, leaf_count, alias_count, is_kind_full, is_node_refused, is_item_refused}
 use Rattle.mrs_arena.specs.Formed.{AreNodes}
 use Rattle.mrs_arena.specs.Inside.{parent_of, node_with, flat_node, flat_nodes, HasRange, kept_count, AreOpen}
@@ -38,7 +38,7 @@ flat_nodes-append items more (node ∷ nodes) ranges =
     ∙ ap (λ flat. flat_node items node ∷ flat) (flat_nodes-append items more nodes (All-tail (HasRange items) node nodes ranges))
 
 -- a node whose range is empty has no items
-pub flat_node-new : (items : List Item) (node : StoredNode) → node.from ≡ length items → node.to ≡ length items → flat_node items node ≡ new_node node.kind node.name.0 (parent_of node)
+pub flat_node-new : (items : List Item) (node : StoredNode) → node.from ≡ length items → node.to ≡ length items → flat_node items node ≡ node_with node []
 flat_node-new items node from to =
     let none : take (node.to - node.from) (drop node.from items) ≡ [] = ap (λ its. take (node.to - node.from) its) (drop_all node.from items (omega arith)) ∙ take_all (node.to - node.from) [] (omega arith) in
     ap (λ its. node_with node (map flat_item its)) none
@@ -73,7 +73,7 @@ AreOpen-none = record {
 }
 
 pub flat_nodes-push : (items : List Item) (nodes : List StoredNode) (node : StoredNode) → node.from ≡ length items → node.to ≡ length items
-    → flat_nodes items (nodes ++ node ∷ []) ≡ flat_nodes items nodes ++ new_node node.kind node.name.0 (parent_of node) ∷ []
+    → flat_nodes items (nodes ++ node ∷ []) ≡ flat_nodes items nodes ++ node_with node [] ∷ []
 flat_nodes-push items nodes node from to = map_push (flat_node items) nodes node ∙ ap (λ flat. flat_nodes items nodes ++ flat ∷ []) (flat_node-new items node from to)
 
 -- a parent that may be one is a node
@@ -119,7 +119,7 @@ pub AreOpen-push : (nodes : List StoredNode) (items : List Item) (leaves aliases
     → AreOpen (nodes ++ node ∷ []) items leaves' aliases'
 AreOpen-push nodes items leaves aliases node leaves' aliases' are from to named place room more_leaves more_aliases =
     let flat = flat_nodes items nodes in
-    let new = new_node node.kind node.name.0 (parent_of node) in
+    let new = node_with node [] in
     let whole = flat_nodes-push items nodes node from to in
     let counts = kept_count-push nodes node flat new (length-map nodes (flat_node items)) are.named (named ∙ kept_count-is nodes items leaves aliases are (parent_of node) place ∙ sym (zero-add (named_up flat (parent_of node)))) in
     record {
@@ -128,7 +128,7 @@ AreOpen-push nodes items leaves aliases node leaves' aliases' are from to named 
       leaves_are = more_leaves ∙ ap (λ n. n + cond (is_leaf node.kind) 1 0) are.leaves_are ∙ sym (leaf_count-push flat new) ∙ ap leaf_count (sym whole);
       aliases_are = more_aliases ∙ ap (λ n. n + cond (is_alias node.kind) 1 0) are.aliases_are ∙ sym (alias_count-push flat new) ∙ ap alias_count (sym whole);
       named = λ n h. counts n h ∙ ap (λ ns. named_on ns n) (sym whole);
-      formed = subst AreNodes (sym whole) (AreNodes-push flat node.kind node.name.0 (parent_of node) are.formed place room);
+      formed = subst AreNodes (sym whole) (AreNodes-push flat new are.formed refl place room);
     }
 
 -- what is kept decides whether a node is refused

@@ -1,24 +1,21 @@
 -- For those who put a tree's nodes one by one: what the nodes are, and where the next may be put.
-use Rattle.std.proofs.Common.{◌≡◌, sym, ap, refl, subst, ℕ, ◌+◌, ◌<◌, List, [], ◌∷◌, ◌++◌, length, get_or, Option, Some, None, arith}
+use Rattle.std.proofs.Common.{◌≡◌, sym, refl, subst, ℕ, ◌+◌, ◌<◌, List, [], ◌∷◌, ◌++◌, length, get_or, Option, Some, None, arith}
 use Rattle.mrs_arena.specs.Flat.{FlatItem, FlatNode}
 use Rattle.mrs_arena.specs.Paths.{IsPlace}
 use Rattle.mrs_arena.specs.Nodes.{parents_of, with_item}
 use Rattle.mrs_arena.specs.Limits.{is_leaf, is_alias, leaf_count, alias_count}
 use Rattle.mrs_arena.proofs.PathLaws.{ancestors-self, ancestors-above}
 use Rattle.mrs_arena.proofs.PreorderLaws.{IsPlace-lt, IsPlace-last, IsPlace-up}
+use Rattle.mrs_arena.proofs.LastOneLaws.{length-at_last, map-at_last_same}
 use Rattle.mrs_arena.proofs.NodeLaws.{parents_of-append, length-parents_of, count_by-append}
 
 -- ---- one more item
 
 pub length-with_item : (it : FlatItem) (nodes : List FlatNode) → length (with_item it nodes) ≡ length nodes
-length-with_item it [] = refl
-length-with_item it (node ∷ []) = refl
-length-with_item it (node ∷ next ∷ rest) = let more = length-with_item it (next ∷ rest) in omega arith
+length-with_item it nodes = length-at_last _ nodes
 
 pub parents_of-with_item : (it : FlatItem) (nodes : List FlatNode) → parents_of (with_item it nodes) ≡ parents_of nodes
-parents_of-with_item it [] = refl
-parents_of-with_item it (node ∷ []) = refl
-parents_of-with_item it (node ∷ next ∷ rest) = ap (λ parents. node.parent ∷ parents) (parents_of-with_item it (next ∷ rest))
+parents_of-with_item it nodes = map-at_last_same (λ node. node.parent) _ (λ node. refl) nodes
 
 -- ---- counts
 

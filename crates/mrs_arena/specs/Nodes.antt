@@ -26,11 +26,15 @@ named_on nodes n = count_by (λ it. is_some it.name) (items_upward nodes n)
 abbrev pub new_node : Kind → ℕ → Option ℕ → FlatNode
 new_node kind name parent = record { kind = kind; name = name; parent = parent; items = [] }
 
+-- a list with something else made of its last element
+abbrev pub at_last : {X : Type 0} → (X → X) → List X → List X
+at_last f [] = []
+at_last f (x ∷ []) = f x ∷ []
+at_last f (x ∷ y ∷ rest) = x ∷ at_last f (y ∷ rest)
+
 -- the nodes with one more item at the last of them
 abbrev pub with_item : FlatItem → List FlatNode → List FlatNode
-with_item it [] = []
-with_item it (node ∷ []) = record node { items = node.items ++ it ∷ [] } ∷ []
-with_item it (node ∷ next ∷ rest) = node ∷ with_item it (next ∷ rest)
+with_item it nodes = at_last (λ node. record node { items = node.items ++ it ∷ [] }) nodes
 
 -- one of the items has the name, if there is one
 abbrev pub has_name_id : ℕ → FlatItem → Bool

@@ -4,7 +4,7 @@ use Rattle.std.specs.List.{range_with_len}
 use Rattle.spec_bits.specs.Item.{Item}
 use Rattle.spec_instructions.specs.Kind as kind
 use Rattle.spec_instructions.specs.Kind.{Kind}
-use Rattle.spec_instructions.specs.Tree.{Own, Node, node, Nodes, no_nodes, more}
+use Rattle.spec_instructions.specs.Tree.{Own, bare, Node, node, Nodes, no_nodes, more}
 use Rattle.mrs_arena.specs.declared.kind.Kind as arena
 use Rattle.mrs_arena.specs.declared.kind.Kind.TheVariants as variant
 use Rattle.mrs_arena.specs.Flat.{FlatItem, FlatNode, with_text}
@@ -57,7 +57,7 @@ IsTree names nodes tree = map (placed_node names) nodes ≡ preorder None 0 tree
 
 -- stands where there is no node
 abbrev pub no_own : Own
-no_own = record { kind = kind.Instance; name = []; items = [] }
+no_own = bare kind.Instance []
 
 abbrev pub own_at : List (List ℕ) → List FlatNode → ℕ → Own
 own_at names nodes n = slice_index_or (map (own_of_flat names) nodes) n no_own

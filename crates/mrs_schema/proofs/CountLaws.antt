@@ -11,13 +11,13 @@ use Rattle.spec_walk.specs.Spot as spot
 use Rattle.spec_instructions.specs.Walk.{counted}
 use Rattle.mrs_arena.specs.declared.kind.Kind.{Kind}
 use Rattle.mrs_arena.specs.declared.kind.Kind.TheVariants.{Set, Group, Leaf, Alias}
-use Rattle.mrs_arena.specs.Flat.{FlatItem, FlatNode}
-use Rattle.mrs_arena.specs.Nodes.{new_node, with_item}
+use Rattle.mrs_arena.specs.Flat.{FlatNode}
+use Rattle.mrs_arena.specs.Nodes.{new_node, at_last}
 use Rattle.mrs_arena.specs.Limits.{is_leaf, is_alias, leaf_count, alias_count, is_kind_full, is_node_refused}
 use Rattle.mrs_arena.specs.Placed.{kind_of, placed_node}
 use Rattle.mrs_arena.proofs.FormedLaws.{leaf_count-push, alias_count-push}
 use Rattle.mrs_arena.proofs.HeldLaws.{count_by-map}
-use Rattle.mrs_arena.proofs.PutLaws.{length-with_item}
+use Rattle.mrs_arena.proofs.LastOneLaws.{length-at_last, map-at_last_same}
 use Rattle.mrs_schema.specs.Drafted.{is_leaf_kind, is_alias_kind, counts}
 
 -- ---- counts, by the nodes that are put
@@ -110,24 +110,20 @@ pub node_refused : (here : Spot) (names : List (List ℕ)) (nodes : List FlatNod
 node_refused here names nodes kind refused =
     ap (gives (counted (kind_of kind) here)) (counts-placed names nodes) ∙ counted-full kind here names (length nodes) (leaf_count nodes) (alias_count nodes) refused
 
--- ---- one more item
+-- ---- more of the last node
 
-kinds-with_item : (it : FlatItem) (nodes : List FlatNode) → map (λ node. node.kind) (with_item it nodes) ≡ map (λ node. node.kind) nodes
-kinds-with_item it [] = refl
-kinds-with_item it (node ∷ []) = refl
-kinds-with_item it (node ∷ next ∷ rest) = ap (λ kinds. node.kind ∷ kinds) (kinds-with_item it (next ∷ rest))
-
-count-with_item : (is : Kind → Bool) (it : FlatItem) (nodes : List FlatNode) → count_by (λ node. is node.kind) (with_item it nodes) ≡ count_by (λ node. is node.kind) nodes
-count-with_item is it nodes =
-    sym (count_by-map is (λ node. is node.kind) (λ node. node.kind) (with_item it nodes) (λ node. refl)) ∙ ap (count_by is) (kinds-with_item it nodes)
+-- a node is counted by its kind
+count-at_last : (is : Kind → Bool) (f : FlatNode → FlatNode) → ((node : FlatNode) → (f node).kind ≡ node.kind) → (nodes : List FlatNode) → count_by (λ node. is node.kind) (at_last f nodes) ≡ count_by (λ node. is node.kind) nodes
+count-at_last is f same nodes =
+    sym (count_by-map is (λ node. is node.kind) (λ node. node.kind) (at_last f nodes) (λ node. refl)) ∙ ap (count_by is) (map-at_last_same (λ node. node.kind) f same nodes)
     ∙ count_by-map is (λ node. is node.kind) (λ node. node.kind) nodes (λ node. refl)
 
--- an item is not counted
-pub counts-with_item : (names : List (List ℕ)) (it : FlatItem) (nodes : List FlatNode)
-    → counts (record { names = names; nodes = map (placed_node names) nodes }) ≡ counts (record { names = names; nodes = map (placed_node names) (with_item it nodes) })
-counts-with_item names it nodes =
+-- so what else is said of the last node is not
+pub counts-at_last : (names : List (List ℕ)) (f : FlatNode → FlatNode) → ((node : FlatNode) → (f node).kind ≡ node.kind) → (nodes : List FlatNode)
+    → counts (record { names = names; nodes = map (placed_node names) nodes }) ≡ counts (record { names = names; nodes = map (placed_node names) (at_last f nodes) })
+counts-at_last names f same nodes =
     counts-placed names nodes
-    ∙ ap (λ n. put_counts names n (leaf_count nodes) (alias_count nodes)) (sym (length-with_item it nodes))
-    ∙ ap (λ n. put_counts names (length (with_item it nodes)) n (alias_count nodes)) (sym (count-with_item is_leaf it nodes))
-    ∙ ap (put_counts names (length (with_item it nodes)) (leaf_count (with_item it nodes))) (sym (count-with_item is_alias it nodes))
-    ∙ sym (counts-placed names (with_item it nodes))
+    ∙ ap (λ n. put_counts names n (leaf_count nodes) (alias_count nodes)) (sym (length-at_last f nodes))
+    ∙ ap (λ n. put_counts names (length (at_last f nodes)) n (alias_count nodes)) (sym (count-at_last is_leaf f same nodes))
+    ∙ ap (put_counts names (length (at_last f nodes)) (leaf_count (at_last f nodes))) (sym (count-at_last is_alias f same nodes))
+    ∙ sym (counts-placed names (at_last f nodes))

@@ -19,10 +19,11 @@ use Rattle.mrs_arena.specs.Limits.{is_item_refused}
 use Rattle.mrs_arena.specs.Formed.{AreNodes}
 use Rattle.mrs_arena.specs.Placed.{text_of, item_of, own_of_flat, Placed, placed_node, IsHeldItem, IsHeldNode, AreHeld}
 use Rattle.mrs_arena.proofs.HeldLaws.{parents-placed, count_by-map, is_some-map}
+use Rattle.mrs_arena.proofs.LastOneLaws.{map-at_last}
 use Rattle.mrs_arena.proofs.PutLaws.{length-with_item}
 use Rattle.mrs_schema.specs.Drafted.{counts, items_at, last_items, named_at, last_named, with_items}
 use Rattle.mrs_schema.proofs.PlacedLaws.{last_named-with_items}
-use Rattle.mrs_schema.proofs.CountLaws.{counts-with_item}
+use Rattle.mrs_schema.proofs.CountLaws.{counts-at_last}
 use Rattle.spec_instructions.specs.Encodeset.{names_of}
 use Rattle.mrs_schema.proofs.TakenLaws.{place_of-held, has_number, has_number-is, has_no_number}
 
@@ -59,9 +60,8 @@ named_at-placed names nodes n =
     ∙ count_by-map (λ it. is_some it.name) (λ it. is_some it.name) (item_of names) (items_upward nodes n) (λ it. is_some-map (text_of names) it.name)
 
 pub placed-with_item : (names : List (List ℕ)) (it : FlatItem) (nodes : List FlatNode) → map (placed_node names) (with_item it nodes) ≡ with_items (item_of names it ∷ []) (map (placed_node names) nodes)
-placed-with_item names it [] = refl
-placed-with_item names it (node ∷ []) = ap (λ items. record (placed_node names node) { own = record (own_of_flat names node) { items = items } } ∷ []) (map_push (item_of names) node.items it)
-placed-with_item names it (node ∷ next ∷ rest) = ap (λ nodes. placed_node names node ∷ nodes) (placed-with_item names it (next ∷ rest))
+placed-with_item names it nodes =
+    map-at_last (placed_node names) _ _ (λ node. ap (λ items. record (placed_node names node) { own = record (own_of_flat names node) { items = items } }) (map_push (item_of names) node.items it)) nodes
 
 -- ---- limits
 
@@ -97,7 +97,7 @@ item_taken here names nodes it named is some room are =
     let few : last_named before + named ≤ 256 = omega (arith, few_named names nodes it some are) in
     let ended = λ (fits : Bool). gives (unless fits here TooMany) (counts (record { names = names; nodes = before })) in
     ap (λ b. ended (b && nat_le (last_named before + named) 256)) (lt-ltb (length (last_items before)) 64 low)
-    ∙ ap ended (le-leb (last_named before + named) 256 few) ∙ ap (λ c. Ok (tt, c)) (counts-with_item names it nodes)
+    ∙ ap ended (le-leb (last_named before + named) 256 few) ∙ ap (λ c. Ok (tt, c)) (counts-at_last names _ (λ node. refl) nodes)
 
 pub item_refused : (here : Spot) (names : List (List ℕ)) (nodes : List FlatNode) (it : FlatItem) (named : ℕ) → named ≡ length (option_to_list it.name) → is_item_refused nodes it ≡ true
     → gives (unless (within_limits (length (last_items (map (placed_node names) nodes))) (last_named (map (placed_node names) nodes) + named)) here TooMany) (counts (record { names = names; nodes = map (placed_node names) nodes }))

@@ -1,5 +1,5 @@
 -- Laws of nodes that are put one by one.
-use Rattle.std.proofs.Common.{◌≡◌, ◌∙◌, sym, ap, refl, subst, ℕ, suc, ◌+◌, ◌-◌, ◌<◌, List, [], ◌∷◌, ◌++◌, length, map, Option, Some, None, is_some, slice_index_or, arith, Contains, append-nil, append_assoc, length-append}
+use Rattle.std.proofs.Common.{◌≡◌, ◌∙◌, sym, ap, refl, subst, ℕ, ◌+◌, ◌-◌, ◌<◌, List, [], ◌∷◌, ◌++◌, length, map, Option, Some, None, is_some, slice_index_or, arith, Contains, append-nil, append_assoc, length-append}
 use Rattle.std.proofs.lemmas.List.{length_push, length-map, map-append}
 use Rattle.spec_bits.specs.Item.{Item}
 use Rattle.spec_instructions.specs.Tree.{Own, Node, node, Nodes, no_nodes, more}
@@ -8,6 +8,7 @@ use Rattle.mrs_arena.specs.Placed.{Placed, preorder, preorders}
 use Rattle.mrs_arena.proofs.PathLaws.{ancestors-append, ancestors-push, ancestors-self, Contains-there}
 use Rattle.mrs_arena.proofs.PreorderLaws.{IsPlace-lt, IsPlace-last, IsPlace-up}
 use Rattle.mrs_arena.proofs.NodeLaws.{count_by-append}
+use Rattle.mrs_arena.proofs.LastOneLaws.{length-at_last, at_last-push}
 use Rattle.mrs_arena.proofs.AlongLaws.{parts_at-push, parts_along-append, parts_along-push, parts_up}
 use Rattle.spec_instructions.specs.Encodeset.{named_in}
 use Rattle.mrs_schema.specs.Drafted.{parents, named_at, last_items, last_named, more_items, with_items}
@@ -108,14 +109,10 @@ abbrev pub with_more : List Item → Placed → Placed
 with_more items x = record x { own = more_items items x.own }
 
 pub length-with_items : (items : List Item) (nodes : List Placed) → length (with_items items nodes) ≡ length nodes
-length-with_items items [] = refl
-length-with_items items (p ∷ []) = refl
-length-with_items items (p ∷ q ∷ rest) = ap suc (length-with_items items (q ∷ rest))
+length-with_items items nodes = length-at_last _ nodes
 
 pub with_items-last : (items : List Item) (nodes : List Placed) (x : Placed) → with_items items (nodes ++ x ∷ []) ≡ nodes ++ with_more items x ∷ []
-with_items-last items [] x = refl
-with_items-last items (p ∷ []) x = refl
-with_items-last items (p ∷ q ∷ rest) x = ap (λ nodes. p ∷ nodes) (with_items-last items (q ∷ rest) x)
+with_items-last items nodes x = at_last-push _ nodes x
 
 -- where there are nodes, one is the last
 record HasLast (nodes : List Placed) : Type 0 where

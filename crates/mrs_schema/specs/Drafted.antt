@@ -1,5 +1,5 @@
 -- What a walk has put so far: the names that are held, and the nodes with the texts of their names.
-use Rattle.std.specs.Prelude.{ℕ, ◌-◌, Bool, true, false, List, [], ◌∷◌, ◌++◌, length, map, flat_map, count_by, slice_index_or, Option}
+use Rattle.std.specs.Prelude.{ℕ, ◌-◌, Bool, true, false, List, [], ◌++◌, length, map, flat_map, count_by, slice_index_or, Option}
 use Rattle.spec_bits.specs.Item.{Item}
 use Rattle.spec_instructions.specs.Encodeset.{named_in}
 use Rattle.spec_walk.specs.Limits.{Counts}
@@ -7,6 +7,7 @@ use Rattle.spec_instructions.specs.Kind as kind
 use Rattle.spec_instructions.specs.Kind.{Kind}
 use Rattle.spec_instructions.specs.Tree.{Own}
 use Rattle.mrs_arena.specs.Paths.{ancestors}
+use Rattle.mrs_arena.specs.Nodes.{at_last}
 use Rattle.mrs_arena.specs.Placed.{Placed}
 
 pub record Drafted : Type 0 where
@@ -56,6 +57,4 @@ more_items items own = record own { items = own.items ++ items }
 
 -- the nodes with more items at the last of them
 abbrev pub with_items : List Item → List Placed → List Placed
-with_items items [] = []
-with_items items (p ∷ []) = record p { own = more_items items p.own } ∷ []
-with_items items (p ∷ q ∷ rest) = p ∷ with_items items (q ∷ rest)
+with_items items nodes = at_last (λ p. record p { own = more_items items p.own }) nodes

@@ -68,7 +68,7 @@ namesakes = refl
 
 -- the tree of a set with a group, its leaf, an instance and a field: names take numbers in the order in which they are met
 small_tree : option_map (λ d. tree_read (codes "A64") (codes "Rd" ∷ []) d) (read (codes "{\"instructions\":[{\"_type\":\"Instruction.InstructionSet\",\"name\":\"A64\",\"children\":[{\"_type\":\"Instruction.InstructionGroup\",\"name\":\"g\",\"encoding\":{\"_type\":\"Instruction.Encodeset.Encodeset\",\"width\":32,\"values\":[{\"_type\":\"Instruction.Encodeset.Field\",\"name\":\"Rd\",\"range\":{\"start\":3,\"width\":2},\"value\":{\"_type\":\"Values.Value\",\"value\":\"'1x'\"},\"should_be_mask\":{\"_type\":\"Values.Value\",\"value\":\"11\"}}]},\"children\":[{\"_type\":\"Instruction.Instruction\",\"name\":\"l\"},{\"_type\":\"Instruction.InstructionInstance\"}]}]}]}"))
-    ≡ Some (Ok (node (bare Set (codes "A64")) (more (node (record { kind = Group; name = codes "g"; items = record { name = Some (codes "Rd"); start = 3; digits = One ∷ Either ∷ []; marks = true ∷ false ∷ [] } ∷ [] }) (more (node (bare Leaf (codes "l")) no_nodes) no_nodes)) no_nodes), record { held = codes "Rd" ∷ codes "A64" ∷ codes "g" ∷ codes "l" ∷ []; nodes = 3; leaves = 1; aliases = 0; expressions = 0 }))
+    ≡ Some (Ok (node (bare Set (codes "A64")) (more (node (record (bare Group (codes "g")) { items = record { name = Some (codes "Rd"); start = 3; digits = One ∷ Either ∷ []; marks = true ∷ false ∷ [] } ∷ [] }) (more (node (bare Leaf (codes "l")) no_nodes) no_nodes)) no_nodes), record { held = codes "Rd" ∷ codes "A64" ∷ codes "g" ∷ codes "l" ∷ []; nodes = 3; leaves = 1; aliases = 0; expressions = 0 }))
 unfolding digits serde_json_on_literals
 small_tree = refl
 

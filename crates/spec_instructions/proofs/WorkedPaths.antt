@@ -6,7 +6,7 @@ use Rattle.spec_bits.specs.PatternText.{PatternRefusal, pattern_in}
 use Rattle.spec_bits.specs.Item.{Item}
 use Rattle.spec_instructions.specs.Kind.{Kind, Set, Group, Leaf}
 use Rattle.spec_instructions.specs.Encodeset.{is_binary, within_limits}
-use Rattle.spec_instructions.specs.Tree.{Own}
+use Rattle.spec_instructions.specs.Tree.{Own, bare}
 use Rattle.spec_instructions.specs.Paths.{label, labelled_leaf}
 use Rattle.spec_instructions.specs.Fields.{fields, merged}
 
@@ -32,7 +32,7 @@ abbrev should_be_bits : ℕ → List ℕ → Item
 should_be_bits start text = record { name = None; start = start; digits = digits_in text; marks = map is_binary (digits_in text) }
 
 abbrev own : Kind → List ℕ → List Item → Own
-own kind name items = record { kind = kind; name = name; items = items }
+own kind name items = record (bare kind name) { items = items }
 
 -- ---- labels
 

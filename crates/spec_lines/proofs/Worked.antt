@@ -3,8 +3,8 @@ use Rattle.std.specs.Prelude.{◌≡◌, ℕ, List, [], ◌∷◌, ◌++◌, Non
 use Rattle.std.specs.Fmt.{digits}
 use Rattle.spec_bits.specs.Pattern.{Digit, Zero, One}
 use Rattle.spec_bits.specs.Item.{Item}
-use Rattle.spec_instructions.specs.Kind.{Kind, Set, Leaf}
-use Rattle.spec_instructions.specs.Tree.{Own, Node, node, no_nodes, more}
+use Rattle.spec_instructions.specs.Kind.{Set, Leaf}
+use Rattle.spec_instructions.specs.Tree.{Own, Node, node, no_nodes, more, bare}
 use Rattle.spec_instructions.specs.Paths.{paths_from}
 use Rattle.spec_lines.specs.Line.{line}
 use Rattle.spec_lines.specs.Listing.{stream_lines}
@@ -15,7 +15,7 @@ abbrev bits : ℕ → List Digit → Item
 bits start digits = record { name = None; start = start; digits = digits; marks = map (λ _. false) digits }
 
 abbrev leaf : List ℕ → List Item → List Own
-leaf name items = record { kind = Leaf; name = name; items = items } ∷ []
+leaf name items = record (bare Leaf name) { items = items } ∷ []
 
 -- `ADD_64_addsub_imm` by its bits 31 to 23, and two leaves of one name that fix bit 0
 abbrev paths : List (List Own)
@@ -41,11 +41,8 @@ unfolding digits
 ragged = refl
 
 -- the set `A64` whose children are two leaves of one name, all without items
-abbrev own : Kind → List ℕ → Own
-own kind name = record { kind = kind; name = name; items = [] }
-
 abbrev namesakes : Node
-namesakes = node (own Set (codes "A64")) (more (node (own Leaf (codes "DUP")) no_nodes) (more (node (own Leaf (codes "DUP")) no_nodes) no_nodes))
+namesakes = node (bare Set (codes "A64")) (more (node (bare Leaf (codes "DUP")) no_nodes) (more (node (bare Leaf (codes "DUP")) no_nodes) no_nodes))
 
 second_namesake : leaf_text (paths_from [] namesakes) 1 ≡ codes "leaf DUP#1\npath A64 DUP\nbits xxxxxxxxxxxxxxxxxxxxxxxxxxxxxxxx\n"
 unfolding digits

@@ -21,7 +21,6 @@ invariant_of-self-2 c =
     let leaves = c.self.inside.leaves in
     let aliases = c.self.inside.aliases in
     let parent = option_map (λ p. p.0) c.args.parent in
-    let node : StoredNode = record { kind = c.args.kind; name = c.args.name; parent = c.args.parent; from = c.len.result; to = c.len-2.result; named = c.named_above.result; end = 0 } in
     let from : c.len.result ≡ length items = omega (arith, c.len.ensures, c.self.inside.items.ok.0) in
     let to : c.len-2.result ≡ length items = omega (arith, c.len-2.ensures, c.self.inside.items.ok.0) in
     let named = c.named_above.ensures ∙ ap (λ ns. kept_count ns parent) c.deref.ensures.value in
@@ -31,7 +30,7 @@ invariant_of-self-2 c =
     let more_leaves = counted leaves c.from.result c.is_leaf.result (is_leaf c.args.kind) c.from.ensures c.is_leaf.ensures in
     let more_aliases = counted aliases c.from-2.result c.is_alias.result (is_alias c.args.kind) c.from-2.ensures c.is_alias.ensures in
     subst (λ (ns : List StoredNode). AreOpen ns items (leaves + c.from.result) (aliases + c.from-2.result)) (sym c.in_ok-push.ensures.items)
-    (AreOpen-push nodes items leaves aliases node (leaves + c.from.result) (aliases + c.from-2.result) c.self.invariant from to named place room more_leaves more_aliases)
+    (AreOpen-push nodes items leaves aliases _ (leaves + c.from.result) (aliases + c.from-2.result) c.self.invariant from to named place room more_leaves more_aliases)
 
 pub returns-clause-formed : goal.returns-clause-formed
 returns-clause-formed c = (invariant_of-self-2 c).formed
