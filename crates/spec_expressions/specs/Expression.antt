@@ -36,12 +36,15 @@ op_named s = find (λ op. bytes_eq (op_text op) s) (And ∷ Or ∷ Implies ∷ I
 -- ---- functions
 
 -- those with a meaning of their own, and any other, of which the name alone is known
-pub data Function : Type 0 where
-  UInt : Function
-  IsZero : Function
-  IsOnes : Function
-  IsFeatureImplemented : Function
-  Named : List ℕ → Function
+pub data FunctionOf (N : Type 0) : Type 0 where
+  UInt : FunctionOf N
+  IsZero : FunctionOf N
+  IsOnes : FunctionOf N
+  IsFeatureImplemented : FunctionOf N
+  Named : N → FunctionOf N
+
+abbrev pub Function : Type 0
+Function = FunctionOf (List ℕ)
 
 abbrev pub function_text : Function → List ℕ
 function_text UInt = codes "UInt"
@@ -56,29 +59,36 @@ function_named s = unwrap_or (find (λ f. bytes_eq (function_text f) s) (UInt �
 -- ---- expressions
 
 mutual
-  pub data Expr : Type 0 where
-    Boolean : Bool → Expr
-    Integer : ℤ → Expr
+  -- over names of some type: in a document a name is its text
+  pub data ExprOf (N : Type 0) : Type 0 where
+    Boolean : Bool → ExprOf N
+    Integer : ℤ → ExprOf N
     -- digits, the first of which stands for the highest bit
-    Bits : List Digit → Expr
+    Bits : List Digit → ExprOf N
     -- a field or a parameter
-    Name : List ℕ → Expr
-    Not : Expr → Expr
+    Name : N → ExprOf N
+    Not : ExprOf N → ExprOf N
     -- the left side and the right one
-    Binary : Op → Expr → Expr → Expr
-    Call : Function → Exprs → Expr
-    Set : Exprs → Expr
+    Binary : Op → ExprOf N → ExprOf N → ExprOf N
+    Call : FunctionOf N → ExprsOf N → ExprOf N
+    Set : ExprsOf N → ExprOf N
     -- bits joined, those of the first part being the highest
-    Join : Exprs → Expr
+    Join : ExprsOf N → ExprOf N
     -- of some bits those from a high one down to a low one
-    Slice : Expr → Expr → Expr → Expr
+    Slice : ExprOf N → ExprOf N → ExprOf N → ExprOf N
     -- an object that is none of these. Two of them need not mean the same: equality of expressions is not equality of atoms
-    Other : Expr
+    Other : ExprOf N
 
-  pub data Exprs : Type 0 where
-    no_exprs : Exprs
-    expr : Expr → Exprs → Exprs
+  pub data ExprsOf (N : Type 0) : Type 0 where
+    no_exprs : ExprsOf N
+    expr : ExprOf N → ExprsOf N → ExprsOf N
 
-abbrev pub exprs_of : List Expr → Exprs
+abbrev pub Expr : Type 0
+Expr = ExprOf (List ℕ)
+
+abbrev pub Exprs : Type 0
+Exprs = ExprsOf (List ℕ)
+
+abbrev pub exprs_of : {N : Type 0} → List (ExprOf N) → ExprsOf N
 exprs_of [] = no_exprs
 exprs_of (e ∷ es) = expr e (exprs_of es)
