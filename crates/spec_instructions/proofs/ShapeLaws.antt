@@ -13,11 +13,12 @@ use Rattle.spec_walk.specs.Walk.{Done, ◌>>>◌, gives}
 use Rattle.spec_walk.specs.Spot.{Spot, unless, needs, an_object, elements, text, needed, optional, kind, kind_text, exactly, number_below, named, each}
 use Rattle.spec_walk.specs.Descend.{Inside, inside_of}
 use Rattle.spec_walk.proofs.EveryLaws.{Every, every-gives, every-then, every-next, every-unless, every-optional, every-each, EveryInside, every-inside}
+use Rattle.spec_expressions.specs.Reading.{expression}
 use Rattle.spec_instructions.specs.Name.{is_name}
 use Rattle.spec_instructions.specs.Kind.{Kind, Set, Group, Leaf, Alias, Instance, kinds_in, kind_named}
 use Rattle.spec_instructions.specs.Encodeset.{ItemKind, Bits, Field, ShouldBeBits, item_kind_named, is_range, range, pattern, value, is_binary, marked_by, masked, should_be, is_field_name, names_of, field_name, item_parts, named_in, within_limits, item, encodeset}
 use Rattle.spec_instructions.specs.Tree.{Own, Node}
-use Rattle.spec_instructions.specs.Walk.{node_name, counted, condition, own, Above, nodes_of, node_of, child_of, child, chosen_in, is_chosen, set_of, set, instructions}
+use Rattle.spec_instructions.specs.Walk.{node_name, counted, own, Above, nodes_of, node_of, child_of, child, chosen_in, is_chosen, set_of, set, instructions}
 use Rattle.spec_instructions.specs.Shape.{IsAmong, MayStand, node_kind, IsShaped, AreShaped, IsSoundItem, IsSoundOwn, IsSound, AreSound, IsSetTree}
 
 -- ---- what is found is one of those among which it was looked for
@@ -138,7 +139,7 @@ own_is k above here =
     every-then (λ s. is_name s ≡ true) (IsOwn k) (node_name here >>> named here) _ (every-then (λ s. is_name s ≡ true) (λ s. is_name s ≡ true) (node_name here) (named here) (name_is here) (λ s is. is)) (λ name is.
     every-next (IsOwn k) (counted k here) _ (λ _.
     every-then (λ o. IfSome o (AllByRecursion IsSoundItem)) (IsOwn k) (optional (codes "encoding") (encodeset above) here) _ (every-optional (AllByRecursion IsSoundItem) (codes "encoding") (encodeset above) here (items_are above)) (λ items fields.
-    every-next (IsOwn k) (optional (codes "condition") condition here) _ (λ _. (refl, record { name = is; items = unwrapped items fields })))))
+    every-next (IsOwn k) (optional (codes "condition") expression here) _ (λ _. (refl, record { name = is; items = unwrapped items fields })))))
   where
     name_is : (here : Spot) → Every (λ s. is_name s ≡ true) (node_name here)
     name_is here =

@@ -7,6 +7,7 @@ use Rattle.spec_bits.specs.Pattern.{One, Either}
 use Rattle.spec_bits.specs.PatternText.{Unquoted}
 use Rattle.spec_walk.specs.Event.{Why, Fault, Missing, UnlistedKind, WrongShape, BadPattern, BadRange, BadName, Doubled, NoSet, NotYet}
 use Rattle.spec_walk.specs.Limits.{◌>>=◌}
+use Rattle.spec_expressions.specs.Expression.{Name}
 use Rattle.spec_instructions.specs.Kind.{Set, Group, Leaf}
 use Rattle.spec_instructions.specs.Tree.{node, no_nodes, more, bare}
 use Rattle.spec_instructions.specs.Paths.{path_name}
@@ -72,10 +73,16 @@ small_tree : option_map (λ d. tree_read (codes "A64") (codes "Rd" ∷ []) d) (r
 unfolding digits serde_json_on_literals
 small_tree = refl
 
--- a condition is not read yet
-conditioned : leaves_in (codes "{\"instructions\":[{\"_type\":\"Instruction.InstructionSet\",\"name\":\"A64\",\"condition\":null,\"children\":[{\"_type\":\"Instruction.Instruction\",\"name\":\"l\",\"condition\":{}}]}]}") ≡ at_place (codes "/instructions/0/children/0/condition") NotYet
+-- a condition is an expression, read behind the items; where it is null or absent there is none
+conditioned : option_map (λ d. tree_read (codes "A64") [] d) (read (codes "{\"instructions\":[{\"_type\":\"Instruction.InstructionSet\",\"name\":\"A64\",\"condition\":null,\"children\":[{\"_type\":\"Instruction.Instruction\",\"name\":\"l\",\"condition\":{\"_type\":\"AST.Identifier\",\"value\":\"F\"}}]}]}"))
+    ≡ Some (Ok (node (bare Set (codes "A64")) (more (node (record (bare Leaf (codes "l")) { condition = Some (Name (codes "F")) }) no_nodes) no_nodes), record { held = codes "A64" ∷ codes "l" ∷ codes "F" ∷ []; nodes = 2; leaves = 1; aliases = 0; expressions = 1 }))
 unfolding digits serde_json_on_literals
 conditioned = refl
+
+-- what is no object is no expression
+no_expression : leaves_in (codes "{\"instructions\":[{\"_type\":\"Instruction.InstructionSet\",\"name\":\"A64\",\"children\":[{\"_type\":\"Instruction.Instruction\",\"name\":\"l\",\"condition\":true}]}]}") ≡ at_place (codes "/instructions/0/children/0/condition") WrongShape
+unfolding digits serde_json_on_literals
+no_expression = refl
 
 -- an alias is not read yet
 aliased : leaves_in (codes "{\"instructions\":[{\"_type\":\"Instruction.InstructionSet\",\"name\":\"A64\",\"children\":[{\"_type\":\"Instruction.Instruction\",\"name\":\"l\",\"children\":[{\"_type\":\"Instruction.InstructionInstance\"},{\"_type\":\"Instruction.InstructionAlias\"}]}]}]}") ≡ at_place (codes "/instructions/0/children/0/children/1") NotYet

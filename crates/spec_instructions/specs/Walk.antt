@@ -4,10 +4,11 @@ use Rattle.spec_walk.specs.Event.{ANode, ALeaf, AnAlias, BadName, Doubled, NoSet
 use Rattle.spec_walk.specs.Walk.{Walk, Done, ◌>>>◌}
 use Rattle.spec_walk.specs.Spot.{Spot, wrong, unless, needs, an_object, elements, text, needed, optional, kind, named, one_more, each}
 use Rattle.spec_walk.specs.Descend.{Inside, Reader, inside_of}
+use Rattle.spec_expressions.specs.Reading.{expression}
 use Rattle.spec_instructions.specs.Name.{is_name}
 use Rattle.spec_instructions.specs.Kind.{Kind, Set, Group, Leaf, Alias, Instance, kinds_in, kind_named}
 use Rattle.spec_instructions.specs.Encodeset.{encodeset, named_in}
-use Rattle.spec_instructions.specs.Tree.{Own, Node, node, Nodes, no_nodes, more}
+use Rattle.spec_instructions.specs.Tree.{Own, bare, Node, node, Nodes, no_nodes, more}
 
 -- ---- what a node says of itself
 
@@ -27,18 +28,14 @@ counted Leaf here = one_more ANode here >>> λ _. one_more ALeaf here
 counted Alias here = one_more ANode here >>> λ _. one_more AnAlias here
 counted Instance here = Done tt
 
--- a condition is not read yet
-abbrev pub condition : Spot → Walk ⊤
-condition here = wrong here NotYet
-
 -- a node of a kind, behind so many named items of its path
 abbrev pub own : Kind → ℕ → Spot → Walk Own
 own k above here =
     node_name here >>> named here >>> λ name.
     counted k here >>> λ _.
     optional (codes "encoding") (encodeset above) here >>> λ items.
-    optional (codes "condition") condition here >>> λ _.
-    Done (record { kind = k; name = name; items = unwrap_or items [] })
+    optional (codes "condition") expression here >>> λ condition.
+    Done (record (bare k name) { items = unwrap_or items []; condition = condition })
 
 -- ---- nodes below nodes
 
