@@ -1,1 +1,3 @@
-pub mod Leaves
+pub mod FoundLaws
+pub mod VerdictLaws
+mod Worked
