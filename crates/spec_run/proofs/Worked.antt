@@ -39,8 +39,8 @@ leaf_text : message (Question NoLeaf) ≡ codes "leaf\n"
 leaf_text = refl
 
 -- a command, and the document that it names
-abbrev opened_by : List ℕ → Result Opened OpeningError
-opened_by document = of_value (codes "A64") [] (read document)
+abbrev opened_by : List (List ℕ) → List ℕ → Result Machine OpeningError
+opened_by on document = of_value (codes "A64") on (read document)
 
 -- a set without leaves, and a stream of one word
 abbrev of_stream : List ℕ → Outcome
