@@ -1,1 +1,4 @@
-pub mod Leaves
+pub mod FoundLaws
+pub mod VerdictLaws
+pub mod ConditionLaws
+mod Worked

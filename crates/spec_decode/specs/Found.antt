@@ -1,29 +1,37 @@
--- Which leaves a word is found at, by the patterns along their paths.
-use Rattle.std.specs.Prelude.{ℕ, ◌+◌, List, [], ◌∷◌, Bool, if◌then◌else◌, ◌≡◌, ◌<◌, ◌==◌, length, slice_index_or, All}
-use Rattle.std.specs.List.{list_all, list_any}
-use Rattle.spec_bits.specs.Item.{item_holds}
+-- Which leaves a word is found at.
+use Rattle.std.specs.Prelude.{◌≡◌, ◌≢◌, ◌<◌, ℕ, ◌+◌, List, [], ◌∷◌, length, slice_index_or, All, AllPairs, Contains}
+use Rattle.spec_expressions.specs.Truth.{Truth, Yes, No, Open}
+use Rattle.spec_expressions.specs.Scope.{Configuration}
 use Rattle.spec_instructions.specs.Tree.{Own}
-use Rattle.spec_instructions.specs.Paths.{path_items}
+use Rattle.spec_decode.specs.Verdict.{verdict}
 
--- a path does not exclude a word: each item of each node on it holds
-abbrev pub path_holds : List Own → ℕ → Bool
-path_holds path w = list_all (λ it. item_holds it w) (path_items path)
+-- a leaf that is not excluded: its number, and its verdict, Yes or Open
+pub record Candidate : Type 0 where
+  pub leaf : ℕ
+  pub verdict : Truth
 
--- the numbers of the leaves that are not excluded, the first of these paths being leaf k
-abbrev pub found_from : ℕ → List (List Own) → ℕ → List ℕ
-found_from k [] w = []
-found_from k (path ∷ paths) w = if path_holds path w then k ∷ found_from (k + 1) paths w else found_from (k + 1) paths w
+-- a leaf of that verdict before others
+abbrev pub with_leaf : ℕ → Truth → List Candidate → List Candidate
+with_leaf k Yes others = record { leaf = k; verdict = Yes } ∷ others
+with_leaf k No others = others
+with_leaf k Open others = record { leaf = k; verdict = Open } ∷ others
+
+-- the leaves that are not excluded, the first of these paths being that of leaf k
+abbrev pub found_from : ℕ → List (List Own) → Configuration → ℕ → List Candidate
+found_from k [] g w = []
+found_from k (path ∷ paths) g w = with_leaf k (verdict path g w) (found_from (k + 1) paths g w)
 
 -- the leaves at which a word is found, in order
-abbrev pub found : List (List Own) → ℕ → List ℕ
-found paths w = found_from 0 paths w
+abbrev pub found : List (List Own) → Configuration → ℕ → List Candidate
+found paths g w = found_from 0 paths g w
 
--- a path's number is found exactly where the path does not exclude the word, and nothing but numbers of paths is found
-abbrev pub is_found : List (List Own) → ℕ → ℕ → Bool
-is_found paths w k = list_any (λ j. j == k) (found paths w)
+-- ---- what this comes to
+
+-- the candidates are the leaves of these paths whose verdict is not No, each with its verdict, once, in order
+pub record AreFound (paths : List (List Own)) (g : Configuration) (w : ℕ) (found : List Candidate) : Type 0 where
+  pub each : All (λ c. (c.leaf < length paths) × (verdict (slice_index_or paths c.leaf []) g w ≡ c.verdict) × (c.verdict ≢ No)) found
+  pub every : (k : ℕ) → k < length paths → verdict (slice_index_or paths k []) g w ≢ No → Contains found (record { leaf = k; verdict = verdict (slice_index_or paths k []) g w })
+  pub order : AllPairs (λ first second. first.leaf < second.leaf) found
 
 abbrev pub FoundIsExact : Type 0
-FoundIsExact = (paths : List (List Own)) (w k : ℕ) → k < length paths → is_found paths w k ≡ path_holds (slice_index_or paths k []) w
-
-abbrev pub FoundIsWithin : Type 0
-FoundIsWithin = (paths : List (List Own)) (w : ℕ) → All (λ k. k < length paths) (found paths w)
+FoundIsExact = (paths : List (List Own)) (g : Configuration) (w : ℕ) → AreFound paths g w (found paths g w)

@@ -2,7 +2,7 @@
 use Rattle.std.proofs.Common.{◌≡◌, ℕ, suc, ◌+◌, ◌-◌, ◌*◌, ◌%◌, ◌<◌, ◌≤◌, List, [], ◌∷◌, ◌++◌, length, get_or, take, drop, refl, sym, ap, arith, append_assoc, length-append, add-zero}
 use Rattle.std.proofs.lemmas.List.{take_rest}
 use Rattle.std.specs.Int.{w32, from_le_bytes}
-use Rattle.spec_instructions.specs.Tree.{Own}
+use Rattle.spec_decode.specs.Machine.{Machine}
 use Rattle.spec_lines.specs.Line.{line}
 use Rattle.spec_lines.specs.Listing.{words_in, rest_in, listing, rest_line, stream_lines}
 
@@ -50,16 +50,16 @@ length_rest_in_lt (a ∷ b ∷ []) = omega arith
 length_rest_in_lt (a ∷ b ∷ c ∷ []) = omega arith
 length_rest_in_lt (a ∷ b ∷ c ∷ d ∷ xs) = length_rest_in_lt xs
 
-pub listing-append : (paths : List (List Own)) (offset : ℕ) (ws vs : List ℕ) → listing paths offset (ws ++ vs) ≡ listing paths offset ws ++ listing paths (offset + 4 * length ws) vs
-listing-append paths offset [] vs = rw add-zero
-listing-append paths offset (w ∷ ws) vs =
+pub listing-append : (machine : Machine) (offset : ℕ) (ws vs : List ℕ) → listing machine offset (ws ++ vs) ≡ listing machine offset ws ++ listing machine (offset + 4 * length ws) vs
+listing-append machine offset [] vs = rw add-zero
+listing-append machine offset (w ∷ ws) vs =
     let e : offset + 4 + 4 * length ws ≡ offset + 4 * suc (length ws) = omega arith in
-    rw (listing-append paths (offset + 4) ws vs, e) (sym (append_assoc (line paths offset w) _ _))
+    rw (listing-append machine (offset + 4) ws vs, e) (sym (append_assoc (line machine offset w) _ _))
 
 -- the lines of two parts, the first of whole words
-pub listing-words : (paths : List (List Own)) (offset : ℕ) (xs ys : List ℕ) → IsWhole xs
-    → listing paths offset (words_in (xs ++ ys)) ≡ listing paths offset (words_in xs) ++ listing paths (offset + length xs) (words_in ys)
-listing-words paths offset xs ys h = rw (words_in-append xs ys h, listing-append paths offset (words_in xs) (words_in ys), length-words_in xs h)
+pub listing-words : (machine : Machine) (offset : ℕ) (xs ys : List ℕ) → IsWhole xs
+    → listing machine offset (words_in (xs ++ ys)) ≡ listing machine offset (words_in xs) ++ listing machine (offset + length xs) (words_in ys)
+listing-words machine offset xs ys h = rw (words_in-append xs ys h, listing-append machine offset (words_in xs) (words_in ys), length-words_in xs h)
 
 -- the first word of four bytes and more, by their places
 pub words_in-first : (xs : List ℕ) → 4 ≤ length xs → words_in xs ≡ from_le_bytes w32 (get_or xs 0 0 ∷ get_or xs 1 0 ∷ get_or xs 2 0 ∷ get_or xs 3 0 ∷ []) ∷ words_in (drop 4 xs)
@@ -92,12 +92,12 @@ rest_in-short (a ∷ b ∷ c ∷ []) h = refl
 rest_in-short (a ∷ b ∷ c ∷ d ∷ xs) h = absurd (omega arith)
 
 -- all lines of a stream whose front is whole words
-pub stream_lines-append : (paths : List (List Own)) (xs ys : List ℕ) → IsWhole xs
-    → stream_lines paths (xs ++ ys) ≡ listing paths 0 (words_in xs) ++ (listing paths (length xs) (words_in ys) ++ rest_line (length xs + 4 * length (words_in ys)) (rest_in ys))
-stream_lines-append paths xs ys h =
+pub stream_lines-append : (machine : Machine) (xs ys : List ℕ) → IsWhole xs
+    → stream_lines machine (xs ++ ys) ≡ listing machine 0 (words_in xs) ++ (listing machine (length xs) (words_in ys) ++ rest_line (length xs + 4 * length (words_in ys)) (rest_in ys))
+stream_lines-append machine xs ys h =
     let z : 0 + length xs ≡ length xs = omega arith in
     let n : 4 * length (words_in xs ++ words_in ys) ≡ length xs + 4 * length (words_in ys) = omega (arith, length-append (words_in xs) (words_in ys), length-words_in xs h) in
-    rw (listing-words paths 0 xs ys h, words_in-append xs ys h, rest_in-append xs ys h, n, z) (append_assoc (listing paths 0 (words_in xs)) _ _)
+    rw (listing-words machine 0 xs ys h, words_in-append xs ys h, rest_in-append xs ys h, n, z) (append_assoc (listing machine 0 (words_in xs)) _ _)
 
 -- the rest stands behind as many bytes as make whole words
 pub rest_in-drop : (xs : List ℕ) → drop (length xs - length xs % 4) xs ≡ rest_in xs

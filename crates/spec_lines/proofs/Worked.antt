@@ -1,11 +1,13 @@
 -- Worked values: lines over two small leaves.
-use Rattle.std.specs.Prelude.{◌≡◌, ℕ, List, [], ◌∷◌, ◌++◌, None, map, false, codes, refl}
+use Rattle.std.specs.Prelude.{◌≡◌, ℕ, List, [], ◌∷◌, ◌++◌, None, Some, map, false, codes, refl}
 use Rattle.std.specs.Fmt.{digits}
 use Rattle.spec_bits.specs.Pattern.{Digit, Zero, One}
 use Rattle.spec_bits.specs.Item.{Item}
 use Rattle.spec_instructions.specs.Kind.{Set, Leaf}
 use Rattle.spec_instructions.specs.Tree.{Own, Node, node, no_nodes, more, bare}
+use Rattle.spec_expressions.specs.Expression.{Name}
 use Rattle.spec_instructions.specs.Paths.{paths_from}
+use Rattle.spec_decode.specs.Machine.{Machine}
 use Rattle.spec_lines.specs.Line.{line}
 use Rattle.spec_lines.specs.Listing.{stream_lines}
 use Rattle.spec_lines.specs.Leaf.{leaf_text}
@@ -18,25 +20,37 @@ abbrev leaf : List ℕ → List Item → List Own
 leaf name items = record (bare Leaf name) { items = items } ∷ []
 
 -- `ADD_64_addsub_imm` by its bits 31 to 23, and two leaves of one name that fix bit 0
-abbrev paths : List (List Own)
-paths = leaf (codes "ADD_64_addsub_imm") (bits 26 (One ∷ Zero ∷ Zero ∷ []) ∷ bits 31 (One ∷ []) ∷ bits 23 (Zero ∷ One ∷ Zero ∷ []) ∷ [])
+abbrev machine : Machine
+machine = record { configuration = record { parameters = []; atoms = [] }; paths = leaf (codes "ADD_64_addsub_imm") (bits 26 (One ∷ Zero ∷ Zero ∷ []) ∷ bits 31 (One ∷ []) ∷ bits 23 (Zero ∷ One ∷ Zero ∷ []) ∷ [])
     ∷ leaf (codes "DUP") (bits 28 (Zero ∷ Zero ∷ Zero ∷ Zero ∷ []) ∷ [])
     ∷ leaf (codes "DUP") (bits 27 (Zero ∷ Zero ∷ Zero ∷ Zero ∷ Zero ∷ []) ∷ [])
+    ∷ (record (bare Leaf (codes "FEATURED")) { items = bits 28 (One ∷ One ∷ One ∷ One ∷ []) ∷ []; condition = Some (Name (codes "FEAT_A")) } ∷ [])
+    ∷ leaf (codes "ALL_ONES") (bits 24 (One ∷ One ∷ One ∷ One ∷ One ∷ One ∷ One ∷ One ∷ []) ∷ [])
     ∷ []
+}
 
-one_leaf : line paths 0 0x91000420 ≡ codes "00000000 91000420 one ADD_64_addsub_imm\n"
+one_leaf : line machine 0 0x91000420 ≡ codes "00000000 91000420 one ADD_64_addsub_imm\n"
 unfolding digits
 one_leaf = refl
 
-namesakes_differ : line paths 4 0x0800_0000 ≡ codes "00000004 08000000 one DUP#1\n"
+namesakes_differ : line machine 4 0x0800_0000 ≡ codes "00000004 08000000 one DUP#1\n"
 unfolding digits
 namesakes_differ = refl
 
-two_leaves : line paths 0x1_0000_0000 0 ≡ codes "100000000 00000000 many DUP#1 yes DUP#2 yes\n"
+two_leaves : line machine 0x1_0000_0000 0 ≡ codes "100000000 00000000 many DUP#1 yes DUP#2 yes\n"
 unfolding digits
 two_leaves = refl
 
-ragged : stream_lines paths (0x20 ∷ 0x04 ∷ 0x00 ∷ 0x91 ∷ 0xc0 ∷ 0x03 ∷ 0x5f ∷ []) ≡ codes "00000000 91000420 one ADD_64_addsub_imm\n" ++ codes "00000004 rest c0035f\n"
+-- the leaf's feature is not known
+one_open_leaf : line machine 0 0xf000_0000 ≡ codes "00000000 f0000000 open FEATURED\n"
+unfolding digits
+one_open_leaf = refl
+
+one_of_two_open : line machine 0 0xffff_ffff ≡ codes "00000000 ffffffff many FEATURED open ALL_ONES yes\n"
+unfolding digits
+one_of_two_open = refl
+
+ragged : stream_lines machine (0x20 ∷ 0x04 ∷ 0x00 ∷ 0x91 ∷ 0xc0 ∷ 0x03 ∷ 0x5f ∷ []) ≡ codes "00000000 91000420 one ADD_64_addsub_imm\n" ++ codes "00000004 rest c0035f\n"
 unfolding digits
 ragged = refl
 
@@ -49,7 +63,7 @@ unfolding digits
 second_namesake = refl
 
 -- bits that are fixed on the path, and bits that two items fix to different values
-fixed_bits : leaf_text paths 0 ≡ codes "leaf ADD_64_addsub_imm\npath ADD_64_addsub_imm\nbits 1xx100010xxxxxxxxxxxxxxxxxxxxxxx\n"
+fixed_bits : leaf_text machine.paths 0 ≡ codes "leaf ADD_64_addsub_imm\npath ADD_64_addsub_imm\nbits 1xx100010xxxxxxxxxxxxxxxxxxxxxxx\n"
 unfolding digits
 fixed_bits = refl
 

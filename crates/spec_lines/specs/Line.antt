@@ -1,20 +1,34 @@
--- The line of a word: its offset, the word, and the leaves at which it is found.
+-- The line of a word: its offset, the word, and the leaves at which it is found, each with its verdict.
 use Rattle.std.specs.Prelude.{ℕ, List, [], ◌∷◌, ◌++◌, codes, flat_map}
+use Rattle.spec_expressions.specs.Truth.{Truth, Yes, No, Open}
 use Rattle.spec_instructions.specs.Tree.{Own}
 use Rattle.spec_instructions.specs.Paths.{label}
-use Rattle.spec_decode.specs.Found.{found}
+use Rattle.spec_decode.specs.Found.{Candidate, found}
+use Rattle.spec_decode.specs.Machine.{Machine}
 use Rattle.spec_lines.specs.Hex.{hex}
 
--- one of several leaves, with its verdict, which is yes while there are no conditions
-abbrev pub candidate : List (List Own) → ℕ → List ℕ
-candidate paths k = 32 ∷ (label paths k ++ codes " yes")
+-- the word before the label of a lone leaf: its conditions are all true, or some are not known. No leaf is found whose verdict is No
+abbrev pub lone_text : Truth → List ℕ
+lone_text Yes = codes "one "
+lone_text Open = codes "open "
+lone_text No = codes "none "
+
+-- the word behind the label of one of several leaves
+abbrev pub verdict_text : Truth → List ℕ
+verdict_text Yes = codes " yes"
+verdict_text Open = codes " open"
+verdict_text No = codes " no"
+
+-- one of several leaves
+abbrev pub candidate : List (List Own) → Candidate → List ℕ
+candidate paths c = 32 ∷ (label paths c.leaf ++ verdict_text c.verdict)
 
 -- no leaf, one, or several
-abbrev pub verdicts : List (List Own) → List ℕ → List ℕ
+abbrev pub verdicts : List (List Own) → List Candidate → List ℕ
 verdicts paths [] = codes "none"
-verdicts paths (k ∷ []) = codes "one " ++ label paths k
-verdicts paths (k ∷ j ∷ ks) = codes "many" ++ flat_map (candidate paths) (k ∷ j ∷ ks)
+verdicts paths (c ∷ []) = lone_text c.verdict ++ label paths c.leaf
+verdicts paths (c ∷ d ∷ cs) = codes "many" ++ flat_map (candidate paths) (c ∷ d ∷ cs)
 
 -- the offset in the stream as at least 8 digits, the word as 8 digits, and what it is; each line ends with LF
-abbrev pub line : List (List Own) → ℕ → ℕ → List ℕ
-line paths offset w = hex 8 offset ++ (32 ∷ (hex 8 w ++ (32 ∷ (verdicts paths (found paths w) ++ 10 ∷ []))))
+abbrev pub line : Machine → ℕ → ℕ → List ℕ
+line machine offset w = hex 8 offset ++ (32 ∷ (hex 8 w ++ (32 ∷ (verdicts machine.paths (found machine.paths machine.configuration w) ++ 10 ∷ []))))

@@ -4,17 +4,18 @@ use Rattle.std.specs.Fmt.{digits}
 use Rattle.serde_json.specs.Read.{read}
 use Rattle.serde_json.proofs.OnLiterals.{serde_json_on_literals}
 use Rattle.spec_walk.specs.Event.{Missing, UnlistedKind}
+use Rattle.spec_decode.specs.Machine.{Machine}
 use Rattle.spec_command.specs.Commands.{AskList, AskLeaf}
 use Rattle.spec_run.specs.End.{Done, Ragged, Usage, Document, Question, NoLeaf, ReadFault, WriteFault, Limit, Insns, Input, Json, Schema, message}
-use Rattle.spec_run.specs.Opening.{Opened, OpeningError, Refused, of_value}
+use Rattle.spec_run.specs.Opening.{OpeningError, Refused, of_value}
 use Rattle.spec_run.specs.Work.{Outcome}
 use Rattle.spec_run.specs.Outcome.{outcome, after_opening}
 
-empty_object : of_value (codes "A64") (read (codes "{}")) ≡ Err (Refused Insns (Schema (record { at = []; why = Missing (codes "instructions") })))
+empty_object : of_value (codes "A64") [] (read (codes "{}")) ≡ Err (Refused Insns (Schema (record { at = []; why = Missing (codes "instructions") })))
 unfolding digits serde_json_on_literals
 empty_object = refl
 
-not_json : of_value (codes "A64") (read (codes "{")) ≡ Err (Refused Insns Json)
+not_json : of_value (codes "A64") [] (read (codes "{")) ≡ Err (Refused Insns Json)
 unfolding digits serde_json_on_literals
 not_json = refl
 
@@ -38,12 +39,12 @@ leaf_text : message (Question NoLeaf) ≡ codes "leaf\n"
 leaf_text = refl
 
 -- a command, and the document that it names
-abbrev opened_by : List ℕ → Result Opened OpeningError
-opened_by document = of_value (codes "A64") (read document)
+abbrev opened_by : List (List ℕ) → List ℕ → Result Machine OpeningError
+opened_by on document = of_value (codes "A64") on (read document)
 
 -- a set without leaves, and a stream of one word
 abbrev of_stream : List ℕ → Outcome
-of_stream bytes = after_opening (AskList (record { insns = []; isa = [] })) (opened_by (codes "{\"instructions\":[{\"_type\":\"Instruction.InstructionSet\",\"name\":\"A64\"}]}")) bytes
+of_stream bytes = after_opening (AskList (record { insns = []; isa = [] })) (opened_by [] (codes "{\"instructions\":[{\"_type\":\"Instruction.InstructionSet\",\"name\":\"A64\"}]}")) bytes
 
 one_word : of_stream (0 ∷ 0 ∷ 0 ∷ 0 ∷ []) ≡ record { end = Done; out = codes "00000000 00000000 none\n" }
 unfolding digits serde_json_on_literals
@@ -56,6 +57,19 @@ one_word_and_a_byte = refl
 no_stream : of_stream [] ≡ record { end = Done; out = [] }
 unfolding digits serde_json_on_literals
 no_stream = refl
+
+-- a leaf without items, whose condition names a feature, and the features that are on
+abbrev with_features : List (List ℕ) → Outcome
+with_features on = after_opening (AskList (record { insns = []; isa = [] })) (opened_by on (codes "{\"instructions\":[{\"_type\":\"Instruction.InstructionSet\",\"name\":\"A64\",\"children\":[{\"_type\":\"Instruction.Instruction\",\"name\":\"L\",\"condition\":{\"_type\":\"AST.Identifier\",\"value\":\"F\"}}]}]}")) (0 ∷ 0 ∷ 0 ∷ 0 ∷ [])
+
+not_known : with_features [] ≡ record { end = Done; out = codes "00000000 00000000 open L\n" }
+unfolding digits serde_json_on_literals
+not_known = refl
+
+-- also where it is named twice
+known : with_features (codes "E" ∷ codes "F" ∷ codes "F" ∷ []) ≡ record { end = Done; out = codes "00000000 00000000 one L\n" }
+unfolding digits serde_json_on_literals
+known = refl
 
 texts : message (ReadFault Input) ≡ codes "read input\n"
 texts = refl
@@ -71,7 +85,7 @@ json_text = refl
 
 -- two leaves of one name
 abbrev of_label : List ℕ → Outcome
-of_label label = after_opening (AskLeaf (record { insns = []; isa = [] }) label) (opened_by (codes "{\"instructions\":[{\"_type\":\"Instruction.InstructionSet\",\"name\":\"A64\",\"children\":[{\"_type\":\"Instruction.Instruction\",\"name\":\"DUP\"},{\"_type\":\"Instruction.Instruction\",\"name\":\"DUP\"}]}]}")) []
+of_label label = after_opening (AskLeaf (record { insns = []; isa = [] }) label) (opened_by [] (codes "{\"instructions\":[{\"_type\":\"Instruction.InstructionSet\",\"name\":\"A64\",\"children\":[{\"_type\":\"Instruction.Instruction\",\"name\":\"DUP\"},{\"_type\":\"Instruction.Instruction\",\"name\":\"DUP\"}]}]}")) []
 
 no_such_leaf : of_label (codes "DUP") ≡ record { end = Question NoLeaf; out = [] }
 unfolding digits serde_json_on_literals

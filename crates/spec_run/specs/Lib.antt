@@ -1,4 +1,5 @@
 pub mod End
+pub mod Pins
 pub mod Opening
 pub mod Opens
 pub mod Work

@@ -7,12 +7,10 @@ use Rattle.serde_json.specs.Read.{read}
 use Rattle.spec_walk.specs.Event.{Fault}
 use Rattle.spec_instructions.specs.Tree.{Own}
 use Rattle.spec_instructions.specs.Reading.{paths_read}
+use Rattle.spec_decode.specs.Machine.{Machine}
 use Rattle.spec_command.specs.Commands.{Release}
+use Rattle.spec_run.specs.Pins.{distinct, all_on}
 use Rattle.spec_run.specs.End.{Which, DocFault, Json, Schema, End, Document, ReadFault, Limit, Insns}
-
--- what was opened: the paths to the leaves of a set of instructions
-pub record Opened : Type 0 where
-  pub paths : List (List Own)
 
 -- why what a command names is not opened: a document is not there, or is too long, or is refused
 pub data OpeningError : Type 0 where
@@ -30,14 +28,15 @@ end_by (Refused which fault) = Document which fault
 abbrev pub json_in : List ℕ → Option Data
 json_in bytes = if is_utf8 bytes then read bytes else None
 
-abbrev pub walked : Result (List (List Own)) Fault → Result Opened OpeningError
-walked (Ok paths) = Ok (record { paths = paths })
-walked (Err fault) = Err (Refused Insns (Schema fault))
+-- a machine with the features of these names
+abbrev pub walked : List (List ℕ) → Result (List (List Own)) Fault → Result Machine OpeningError
+walked on (Ok paths) = Ok (record { paths = paths; configuration = all_on on })
+walked on (Err fault) = Err (Refused Insns (Schema fault))
 
--- no text has a number before the walk
-abbrev pub of_value : List ℕ → Option Data → Result Opened OpeningError
-of_value isa None = Err (Refused Insns Json)
-of_value isa (Some d) = walked (paths_read isa [] d)
+-- the names of the features have their numbers before the walk
+abbrev pub of_value : List ℕ → List (List ℕ) → Option Data → Result Machine OpeningError
+of_value isa on None = Err (Refused Insns Json)
+of_value isa on (Some d) = walked on (paths_read isa (distinct on) d)
 
 -- a document has at most 2^28 bytes
 abbrev pub document_limit : ℕ
@@ -48,9 +47,9 @@ abbrev pub by_bytes : {A : Type 0} → Which → (List ℕ → Result A OpeningE
 by_bytes which given None = Err (NotRead which)
 by_bytes which given (Some bytes) = if nat_lt document_limit (length bytes) then Err (TooLong which) else given bytes
 
-abbrev pub of_document : List ℕ → Option (List ℕ) → Result Opened OpeningError
-of_document isa document = by_bytes Insns (λ bytes. of_value isa (json_in bytes)) document
+abbrev pub of_document : List ℕ → List (List ℕ) → Option (List ℕ) → Result Machine OpeningError
+of_document isa on document = by_bytes Insns (λ bytes. of_value isa on (json_in bytes)) document
 
--- the set of a document of that name
-abbrev pub release_opened : Release → List Named → Result Opened OpeningError
-release_opened release docs = of_document release.isa (document_of release.insns docs)
+-- the set of a document of that name, with the features of these names
+abbrev pub machine_opened : Release → List (List ℕ) → List Named → Result Machine OpeningError
+machine_opened release on docs = of_document release.isa on (document_of release.insns docs)
