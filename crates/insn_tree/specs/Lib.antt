@@ -6,5 +6,6 @@ pub mod Parts
 pub mod Leaves
 pub mod Labels
 pub mod Trees
+pub mod Codes
 pub mod Kept
 pub mod Grown

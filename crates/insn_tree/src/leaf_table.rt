@@ -34,10 +34,10 @@ pub(crate) fn describe_leaves(
     names: &Names,
     nodes: Vec<NodeId>,
 ) -> Result<LeafTable, NoMemory>
-    requires leaves { map (λ n. n.0) nodes.items ≡ leaves_of arena.now }
-    requires formed { AreNodes arena.now }
-    requires held { AreHeld names.now arena.now }
-    ensures leaves { IfOk result (AreLeaves arena.now) }
+    requires leaves { map (λ n. n.0) nodes.items ≡ leaves_of arena.now.nodes }
+    requires formed { AreNodes arena.now.nodes }
+    requires held { AreHeld names.now arena.now.nodes }
+    ensures leaves { IfOk result (AreLeaves arena.now.nodes) }
     ensures names { OnOk result (AreNames names.now) }
 {
     let leaf_names = leaf_names(alloc, arena, &nodes)?;
