@@ -1,6 +1,7 @@
 pub mod Upward
 pub mod Words
 pub mod Visible
+pub mod Conditions
 pub mod Views
 pub mod Parts
 pub mod Leaves
