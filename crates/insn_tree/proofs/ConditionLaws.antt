@@ -1,10 +1,11 @@
 -- The conditions down to a node are those down to its parent, and its own.
 use Rattle.std.proofs.Common.{◌≡◌, ◌∙◌, sym, ap, refl, subst, ℕ, zero, suc, ◌<◌, List, [], ◌∷◌, ◌++◌, length, map, reverse, get_or, Option, Some, None, IfSome, slice_get, Bool, true, false, ◌||◌}
-use Rattle.std.specs.Prelude.{option_map, is_some}
+use Rattle.std.specs.Prelude.{option_map, is_some, unwrap_or}
 use Rattle.std.specs.List.{list_any, AllByRecursion}
 use Rattle.std.proofs.lemmas.Option.{slice_get_within, get_or_from_slice_get}
 use Rattle.std.proofs.lemmas.List.{map-append, get_or-map}
 use Rattle.std.proofs.lemmas.Grind.{reverse_onto}
+use Rattle.spec_expressions.specs.Expression.{ExprOf}
 use Rattle.spec_expressions.specs.Truth.{Yes, conjunction}
 use Rattle.spec_expressions.specs.Scope.{Configuration}
 use Rattle.spec_expressions.specs.Value.{truth}
@@ -12,7 +13,10 @@ use Rattle.spec_instructions.specs.Tree.{Own}
 use Rattle.spec_instructions.specs.Fields.{fields}
 use Rattle.spec_decode.specs.Verdict.{conditions_from}
 use Rattle.spec_decode.proofs.ConditionLaws.{conditions-last, no_conditions}
-use Rattle.mrs_arena.specs.Flat.{FlatNode}
+use Rattle.mrs_arena.specs.declared.expr_id.ExprId.{ExprId}
+use Rattle.mrs_arena.specs.Flat.{FlatNode, ArenaNode}
+use Rattle.mrs_arena.specs.Views.{node_put}
+use Rattle.mrs_arena.specs.Expressions.{expr_at}
 use Rattle.mrs_arena.specs.Nodes.{parents_of}
 use Rattle.mrs_arena.specs.Paths.{ancestors, path_up}
 use Rattle.mrs_arena.specs.Placed.{expr_of, own_of_flat, no_own, own_at, path_to}
@@ -79,3 +83,21 @@ free_path names nodes (n ∷ up) h =
 
 pub free-conditions : (names : List (List ℕ)) (nodes : List FlatNode) (n : ℕ) → is_conditioned nodes n ≡ false → (g : Configuration) (w : ℕ) → conditions_at names nodes g w n ≡ Yes
 free-conditions names nodes n h g w = no_conditions [] (path_to names nodes n) g w (free_path names nodes (ancestors (parents_of nodes) n) h)
+
+-- ---- a look for a condition along a path
+
+-- a node without a condition, as it is read back
+pub no_condition : (nodes : List FlatNode) (exprs : List (ExprOf ℕ)) (k : ℕ) (node : ArenaNode) (found : Option ExprId) → slice_get nodes k ≡ Some (node_put exprs node)
+    → option_map (λ e. e.0) found ≡ node.condition → is_some found ≡ false → has_condition nodes k ≡ false
+no_condition nodes exprs k node found at is none =
+    ap (λ o. unwrap_or (option_map (λ n. is_some n.condition) o) false) at
+    ∙ ap (λ c. is_some (option_map (expr_at exprs) c)) (sym is)
+    ∙ nothing found none
+  where
+    nothing : (o : Option ExprId) → is_some o ≡ false → is_some (option_map (expr_at exprs) (option_map (λ e. e.0) o)) ≡ false
+    nothing None none = refl
+    nothing (Some e) none = none
+
+pub any-step : (nodes : List FlatNode) (left next : List ℕ) (k : ℕ) (whole : Bool) → left ≡ k ∷ next → has_condition nodes k ≡ false → list_any (has_condition nodes) left ≡ whole → list_any (has_condition nodes) next ≡ whole
+any-step nodes left next k whole steps none h =
+    ap (λ b. b || list_any (has_condition nodes) next) (sym none) ∙ ap (list_any (has_condition nodes)) (sym steps) ∙ h

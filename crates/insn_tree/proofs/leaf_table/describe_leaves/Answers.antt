@@ -9,6 +9,7 @@ use Rattle.mrs_arena.specs.Placed.{leaves_of, has_kind}
 use Rattle.insn_tree.specs.Leaves.{name_at, is_shared}
 use Rattle.insn_tree.specs.Words.{merged_at}
 use Rattle.insn_tree.specs.Visible.{fields_at}
+use Rattle.insn_tree.specs.Conditions.{is_conditioned}
 use Rattle.insn_tree.proofs.ListLaws.{All-unmap, map-twice}
 use Rattle.insn_tree.proofs.LeafLaws.{kept_within, kept_few, held_name}
 use Rattle.insn_tree.proofs.leaf_table.describe_leaves.Goals as goal
@@ -58,6 +59,9 @@ merged_patterns-requires c = are_nodes c.args.arena.now.nodes c.args.nodes.items
 pub leaf_fields-requires : goal.leaf_fields-requires
 leaf_fields-requires c = are_nodes c.args.arena.now.nodes c.args.nodes.items c.deref-4.result.now c.requires.leaves c.deref-4.ensures.value
 
+pub conditioned_leaves-requires : goal.conditioned_leaves-requires
+conditioned_leaves-requires c = are_nodes c.args.arena.now.nodes c.args.nodes.items c.deref-5.result.now c.requires.leaves c.deref-5.ensures.value
+
 pub returns-clause-leaves : goal.returns-clause-leaves
 returns-clause-leaves c =
     let nodes = c.args.arena.now.nodes in
@@ -74,5 +78,6 @@ returns-clause-leaves c =
           ∙ ap (λ ns. map (is_shared ns) ns) named;
       merged_are = c.in_ok-merged.ensures.digits ∙ ap (map (λ (n : NodeId). merged_at nodes n.0)) c.deref-3.ensures.value ∙ of_leaves (merged_at nodes) items (leaves_of nodes) leaves;
       widths = c.in_ok-merged.ensures.widths;
+      conditioned_are = c.in_ok-conditioned.ensures ∙ ap (map (λ (n : NodeId). is_conditioned nodes n.0)) c.deref-5.ensures.value ∙ of_leaves (is_conditioned nodes) items (leaves_of nodes) leaves;
       fields_are = c.in_ok-fields.ensures ∙ ap (map (λ (n : NodeId). fields_at nodes n.0)) c.deref-4.ensures.value ∙ of_leaves (fields_at nodes) items (leaves_of nodes) leaves;
     }
