@@ -44,7 +44,7 @@ opened_by on document = of_value (codes "A64") on (read document)
 
 -- a set without leaves, and a stream of one word
 abbrev of_stream : List ℕ → Outcome
-of_stream bytes = after_opening (AskList (record { insns = []; isa = [] })) (opened_by [] (codes "{\"instructions\":[{\"_type\":\"Instruction.InstructionSet\",\"name\":\"A64\"}]}")) bytes
+of_stream bytes = after_opening (AskList (record { insns = []; isa = [] }) []) (opened_by [] (codes "{\"instructions\":[{\"_type\":\"Instruction.InstructionSet\",\"name\":\"A64\"}]}")) bytes
 
 one_word : of_stream (0 ∷ 0 ∷ 0 ∷ 0 ∷ []) ≡ record { end = Done; out = codes "00000000 00000000 none\n" }
 unfolding digits serde_json_on_literals
@@ -60,7 +60,7 @@ no_stream = refl
 
 -- a leaf without items, whose condition names a feature, and the features that are on
 abbrev with_features : List (List ℕ) → Outcome
-with_features on = after_opening (AskList (record { insns = []; isa = [] })) (opened_by on (codes "{\"instructions\":[{\"_type\":\"Instruction.InstructionSet\",\"name\":\"A64\",\"children\":[{\"_type\":\"Instruction.Instruction\",\"name\":\"L\",\"condition\":{\"_type\":\"AST.Identifier\",\"value\":\"F\"}}]}]}")) (0 ∷ 0 ∷ 0 ∷ 0 ∷ [])
+with_features on = after_opening (AskList (record { insns = []; isa = [] }) []) (opened_by on (codes "{\"instructions\":[{\"_type\":\"Instruction.InstructionSet\",\"name\":\"A64\",\"children\":[{\"_type\":\"Instruction.Instruction\",\"name\":\"L\",\"condition\":{\"_type\":\"AST.Identifier\",\"value\":\"F\"}}]}]}")) (0 ∷ 0 ∷ 0 ∷ 0 ∷ [])
 
 not_known : with_features [] ≡ record { end = Done; out = codes "00000000 00000000 open L\n" }
 unfolding digits serde_json_on_literals
