@@ -197,14 +197,125 @@ all_both P (x ∷ xs) ys a b = (a.0, all_both P xs ys a.1 b)
 literal_wider : (n m : ℕ) → n ≤ m → (l : ℤ) → IsLiteral n l → IsLiteral m l
 literal_wider n m le l i = record { some = i.some; within = omega (arith, i.within, le) }
 
-table_bounded : (n : ℕ) (c : Connective) (x a b : ℤ) → IsLiteral n x → IsLiteral n a → IsLiteral n b → AllByRecursion (IsClause n) (table c x a b)
-table_bounded n Conjunction x a b ix ia ib =
-    ((neg_literal n x ix, ia, tt), (neg_literal n x ix, ib, tt), (ix, neg_literal n a ia, neg_literal n b ib, tt), tt)
-table_bounded n Disjunction x a b ix ia ib =
-    ((ix, neg_literal n a ia, tt), (ix, neg_literal n b ib, tt), (neg_literal n x ix, ia, ib, tt), tt)
-table_bounded n Implication x a b ix ia ib =
-    table_bounded n Disjunction x (neg_ℤ a) b ix (neg_literal n a ia) ib
-table_bounded n Equivalence x a b ix ia ib = (
-  (neg_literal n x ix, neg_literal n a ia, ib, tt), (neg_literal n x ix, ia, neg_literal n b ib, tt),
-  (ix, ia, ib, tt), (ix, neg_literal n a ia, neg_literal n b ib, tt), tt,
+pair_bounded : (n : ℕ) (a b : ℤ) → IsLiteral n a → IsLiteral n b → IsClause n (a ∷ b ∷ [])
+pair_bounded n a b ia ib = (ia, (ib, tt))
+
+triple_bounded : (n : ℕ) (a b c : ℤ) → IsLiteral n a → IsLiteral n b → IsLiteral n c → IsClause n (a ∷ b ∷ c ∷ [])
+triple_bounded n a b c ia ib ic = (ia, (ib, (ic, tt)))
+
+either_bounded : (n : ℕ) (x a b : ℤ) → IsLiteral n x → IsLiteral n a → IsLiteral n b → AllByRecursion (IsClause n) (either_clauses x a b)
+either_bounded n x a b ix ia ib = (
+  pair_bounded n x (neg_ℤ a) ix (neg_literal n a ia),
+  (pair_bounded n x (neg_ℤ b) ix (neg_literal n b ib), (triple_bounded n (neg_ℤ x) a b (neg_literal n x ix) ia ib, tt)),
 )
+
+table_bounded : (n : ℕ) (c : Connective) (x a b : ℤ) → IsLiteral n x → IsLiteral n a → IsLiteral n b → AllByRecursion (IsClause n) (table c x a b)
+table_bounded n Conjunction x a b ix ia ib = (
+  pair_bounded n (neg_ℤ x) a (neg_literal n x ix) ia,
+  (pair_bounded n (neg_ℤ x) b (neg_literal n x ix) ib, (triple_bounded n x (neg_ℤ a) (neg_ℤ b) ix (neg_literal n a ia) (neg_literal n b ib), tt)),
+)
+table_bounded n Disjunction x a b ix ia ib = either_bounded n x a b ix ia ib
+table_bounded n Implication x a b ix ia ib = either_bounded n x (neg_ℤ a) b ix (neg_literal n a ia) ib
+table_bounded n Equivalence x a b ix ia ib =
+    let nx = neg_literal n x ix in
+    let na = neg_literal n a ia in
+    let nb = neg_literal n b ib in (
+      triple_bounded n (neg_ℤ x) (neg_ℤ a) b nx na ib,
+      (triple_bounded n (neg_ℤ x) a (neg_ℤ b) nx ia nb, (triple_bounded n x a b ix ia ib, (triple_bounded n x (neg_ℤ a) (neg_ℤ b) ix na nb, tt))),
+    )
+
+-- each literal of the clauses is within the greatest variable
+pub clauses_bounded : (last : ℕ) (f : Formula) → Uses last f → AllByRecursion (IsClause (encoded last f).last) (encoded last f).clauses
+clauses_bounded last (Constant b) u = ((signed_literal (last + 1) b (last + 1) (omega arith) (omega arith), tt), tt)
+clauses_bounded last (Variable n) u = tt
+clauses_bounded last (Negation f) u = clauses_bounded last f u
+clauses_bounded last (Joined c f g) u =
+    let l = encoded last f in
+    let r = encoded l.last g in
+    let v : ℕ = r.last + 1 in
+    let uses : Uses l.last g = uses_wider last l.last (grows last f) g u.1 in
+    let low : l.last ≤ v = omega (arith, grows l.last g) in
+    let high : r.last ≤ v = omega arith in
+    all_both (IsClause v) l.clauses (r.clauses ++ table c (pos v) l.literal r.literal)
+    (clauses_wider l.last v low l.clauses (clauses_bounded last f u.0))
+    (all_both (IsClause v) r.clauses (table c (pos v) l.literal r.literal)
+    (clauses_wider r.last v high r.clauses (clauses_bounded l.last g uses))
+    (table_bounded v c (pos v) l.literal r.literal (record { some = omega arith; within = omega arith })
+    (literal_wider l.last v low l.literal (literal_bounded last f u.0)) (literal_wider r.last v high r.literal (literal_bounded l.last g uses))))
+
+-- ---- what the clauses say
+
+-- under u a formula holds or not; v agrees with u on the variables up to n, and the clauses stand behind a last variable
+pub record Says (u v : ℕ → Bool) (last : ℕ) (f : Formula) : Type 0 where
+  pub made : Carries v last (auxiliaries u f) → satisfies v (encoded last f).clauses ≡ true
+  pub forced : satisfies v (encoded last f).clauses ≡ true → Carries v last (auxiliaries u f)
+  pub literal : satisfies v (encoded last f).clauses ≡ true → literal_true v (encoded last f).literal ≡ holds u f
+
+one_clause : (b : Bool) → ((b || false) && true) ≡ b
+one_clause true = refl
+one_clause false = refl
+
+pub says : (n : ℕ) (u v : ℕ → Bool) → Agree n u v → (last : ℕ) → n ≤ last → (f : Formula) → Uses n f → Says u v last f
+says n u v a last le (Constant b) w =
+    let one : satisfies v ((signed b (last + 1) ∷ []) ∷ []) ≡ same_truth b (v (last + 1)) =
+    one_clause (literal_true v (signed b (last + 1))) ∙ signed_true v b (last + 1) (omega arith) in
+    record {
+      made = λ carries. one ∙ ap (same_truth b) carries.0 ∙ same_refl b;
+      forced = λ s. (same_is b (v (last + 1)) (sym one ∙ s), tt);
+      literal = λ s. variable_true v (last + 1) (omega arith) ∙ same_is b (v (last + 1)) (sym one ∙ s);
+    }
+says n u v a last le (Variable k) w = record { made = λ carries. refl; forced = λ s. tt; literal = λ s. variable_true v k w.0 ∙ sym (a k w.0 w.1) }
+says n u v a last le (Negation f) w =
+    let inner = says n u v a last le f w in
+    record {
+      made = inner.made;
+      forced = inner.forced;
+      literal = λ s. neg_true v (encoded last f).literal (literal_bounded last f (uses_wider n last le f w)).some ∙ ap not (inner.literal s);
+    }
+says n u v a last le (Joined c f g) w =
+    joined_says u v last c f g (says n u v a last le f w.0)
+    (says n u v a (encoded last f).last (omega (arith, le, grows last f)) g w.1)
+    (literal_bounded last f (uses_wider n last le f w.0)).some
+    (literal_bounded (encoded last f).last g (uses_wider n (encoded last f).last (omega (arith, le, grows last f)) g w.1)).some
+  where
+    joined_says : (u v : ℕ → Bool) (last : ℕ) (c : Connective) (f g : Formula) → Says u v last f → Says u v (encoded last f).last g
+        → 0 < nat_abs (encoded last f).literal → 0 < nat_abs (encoded (encoded last f).last g).literal → Says u v last (Joined c f g)
+    joined_says u v last c f g left right some_left some_right =
+        let l = encoded last f in
+        let r = encoded l.last g in
+        let x : Bool = joins c (holds u f) (holds u g) in
+        let t : List (List ℤ) = table c (pos (r.last + 1)) l.literal r.literal in
+        let positive : 0 < nat_abs (pos (r.last + 1)) = omega arith in
+        let whole : satisfies v (l.clauses ++ (r.clauses ++ t)) ≡ (satisfies v l.clauses && (satisfies v r.clauses && satisfies v t)) =
+        list_all-append (clause_true v) l.clauses (r.clauses ++ t) ∙ ap (λ b. satisfies v l.clauses && b) (list_all-append (clause_true v) r.clauses t) in
+        let gate : satisfies v l.clauses ≡ true → satisfies v r.clauses ≡ true → satisfies v t ≡ same_truth (v (r.last + 1)) x =
+        λ sl sr. table_says v c (pos (r.last + 1)) l.literal r.literal positive some_left some_right
+        ∙ ap (λ b. same_truth b (joins c (literal_true v l.literal) (literal_true v r.literal))) (variable_true v (r.last + 1) (omega arith))
+        ∙ ap (λ b. same_truth (v (r.last + 1)) (joins c b (literal_true v r.literal))) (left.literal sl)
+        ∙ ap (λ b. same_truth (v (r.last + 1)) (joins c (holds u f) b)) (right.literal sr) in
+        let parts : satisfies v (l.clauses ++ (r.clauses ++ t)) ≡ true → (satisfies v l.clauses ≡ true) × ((satisfies v r.clauses ≡ true) × (satisfies v t ≡ true)) =
+        λ s. let p = and_parts (satisfies v l.clauses) (satisfies v r.clauses && satisfies v t) (sym whole ∙ s) in
+        (p.0, and_parts (satisfies v r.clauses) (satisfies v t) p.1) in
+        let at : ℕ → Type 0 = λ k. Carries v k (auxiliaries u g ++ x ∷ []) in
+        let at_end : ℕ → Type 0 = λ k. Carries v k (x ∷ []) in
+        let before : l.last ≡ last + length (auxiliaries u f) = last_is u last f in
+        let behind : r.last ≡ l.last + length (auxiliaries u g) = last_is u l.last g in
+        record {
+          made = λ carries.
+          let p = carries_parts v last (auxiliaries u f) (auxiliaries u g ++ x ∷ []) carries in
+          let q = carries_parts v l.last (auxiliaries u g) (x ∷ []) (subst at (sym before) p.1) in
+          let end : at_end r.last = subst at_end (sym behind) q.1 in
+          let sl = left.made p.0 in
+          let sr = right.made q.0 in
+          whole ∙ and_from (satisfies v l.clauses) (satisfies v r.clauses && satisfies v t) sl
+          (and_from (satisfies v r.clauses) (satisfies v t) sr
+          (gate sl sr ∙ ap (λ b. same_truth b x) end.0 ∙ same_refl x));
+          forced = λ s.
+          let p = parts s in
+          let end : at_end r.last = (sym (same_is (v (r.last + 1)) x (sym (gate p.0 p.1.0) ∙ p.1.1)), tt) in
+          carries_both v last (auxiliaries u f) (auxiliaries u g ++ x ∷ []) (left.forced p.0)
+          (subst at before (carries_both v l.last (auxiliaries u g) (x ∷ []) (right.forced p.1.0) (subst at_end behind end)));
+          literal = λ s.
+          let p = parts s in
+          variable_true v (r.last + 1) (omega arith) ∙ sym (same_is (v (r.last + 1)) x (sym (gate p.0 p.1.0) ∙ p.1.1));
+        }

@@ -1,2 +1,4 @@
 mod Worked
 pub mod Encoding
+pub mod Assignments
+pub mod Uses
