@@ -2,3 +2,4 @@ mod Worked
 pub mod Encoding
 pub mod Assignments
 pub mod Uses
+pub mod Exact

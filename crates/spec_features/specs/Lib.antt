@@ -6,3 +6,4 @@ pub mod Formula
 pub mod Theory
 pub mod Fits
 pub mod Clauses
+pub mod Laws
