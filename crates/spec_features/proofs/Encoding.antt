@@ -1,16 +1,15 @@
 -- The clauses of a formula say what it says: its literal is true where it holds, and its auxiliaries have one state each.
-use Rattle.std.proofs.Common.{◌≡◌, ℕ, zero, suc, ◌+◌, ◌<◌, ◌≤◌, ℤ, pos, negsuc, neg_ℤ, nat_abs, Bool, true, false, not, ◌||◌, ◌&&◌, List, [], ◌∷◌, ◌++◌, length, refl, sym, ap, ◌∙◌, subst, arith, add-zero, append_assoc}
-use Rattle.std.specs.List.{list_all, list_any, AllByRecursion}
+use Rattle.std.proofs.Common.{◌≡◌, ℕ, zero, suc, ◌+◌, ◌<◌, ◌≤◌, ℤ, pos, negsuc, neg_ℤ, nat_abs, Bool, true, false, not, ◌||◌, ◌&&◌, List, [], ◌∷◌, ◌++◌, length, refl, sym, ap, ◌∙◌, subst, arith, add-zero}
+use Rattle.std.specs.List.{AllByRecursion}
 use Rattle.std.proofs.lemmas.Bool.{and_parts, and_from}
 use Rattle.std.proofs.lemmas.List.{length-append}
 use Rattle.std.proofs.lemmas.List.Folds.{list_all-append}
 use Rattle.spec_refutation.specs.Literals.{literal_true, clause_true, satisfies}
 use Rattle.spec_refutation.specs.Reading.{IsLiteral, IsClause}
-use Rattle.spec_refutation.proofs.Sound.{neg-neg}
 use Rattle.spec_refutation.proofs.Agreement.{clauses_wider, Agree}
 use Rattle.spec_features.specs.Fact.{same_truth}
 use Rattle.spec_features.specs.Formula.{Connective, Conjunction, Disjunction, Implication, Equivalence, Formula, Constant, Variable, Negation, Joined, joins, holds}
-use Rattle.spec_features.specs.Clauses.{signed, Encoded, table, either_clauses, joined, encoded}
+use Rattle.spec_features.specs.Clauses.{signed, table, either_clauses, encoded}
 
 -- ---- literals
 

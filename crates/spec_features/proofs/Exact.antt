@@ -1,5 +1,5 @@
 -- The clauses of constraints and pins hold exactly where a configuration fits.
-use Rattle.std.proofs.Common.{◌≡◌, ℕ, ◌+◌, ◌<◌, ◌≤◌, ℤ, Bool, true, false, not, ◌||◌, ◌&&◌, List, [], ◌∷◌, ◌++◌, length, Option, Some, None, refl, sym, ap, ◌∙◌, subst, arith, add-zero}
+use Rattle.std.proofs.Common.{◌≡◌, ℕ, ◌+◌, ◌<◌, ◌≤◌, ℤ, Bool, true, false, ◌||◌, ◌&&◌, List, [], ◌∷◌, ◌++◌, length, Option, Some, None, refl, sym, ap, ◌∙◌, subst, arith, add-zero}
 use Rattle.std.specs.Prelude.{flat_map, position, slice_index_or}
 use Rattle.std.specs.List.{list_all, filter_map, cons_option, AllByRecursion}
 use Rattle.std.specs.Option.{option_map}
@@ -13,9 +13,8 @@ use Rattle.spec_refutation.specs.First.{assignment}
 use Rattle.spec_refutation.proofs.Agreement.{clauses_wider, Agree}
 use Rattle.spec_features.specs.Fact.{same_truth}
 use Rattle.spec_features.specs.Formula.{Formula, holds}
-use Rattle.spec_features.specs.Theory.{TheoryOf, states}
-use Rattle.spec_features.specs.Fits.{PinOf, has_state, agrees, Fits}
-use Rattle.spec_features.specs.Clauses.{signed, Encoded, encoded, all_encoded, last_of, constraint_clauses, pin_clause, variables, clauses, connective_clauses}
+use Rattle.spec_features.specs.Fits.{PinOf, has_state, agrees}
+use Rattle.spec_features.specs.Clauses.{signed, encoded, all_encoded, last_of, constraint_clauses, pin_clause}
 use Rattle.spec_features.proofs.Encoding.{signed_true, signed_literal, Uses, uses_wider, auxiliaries, Carries, carries_both, carries_parts, last_is, grows, all_both, literal_bounded, clauses_bounded, Says, says}
 use Rattle.spec_features.proofs.Assignments.{assignment_at}
 

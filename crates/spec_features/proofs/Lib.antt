@@ -3,3 +3,4 @@ pub mod Encoding
 pub mod Assignments
 pub mod Uses
 pub mod Exact
+pub mod Firsts

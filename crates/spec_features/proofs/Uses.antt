@@ -1,14 +1,14 @@
 -- The formulas of constraints speak of parameters and atoms alone.
-use Rattle.std.proofs.Common.{◌≡◌, ℕ, ◌+◌, ◌<◌, ◌≤◌, Bool, List, [], ◌∷◌, ◌++◌, length, Option, Some, None, refl, sym, ap, ◌∙◌, subst, arith}
+use Rattle.std.proofs.Common.{◌≡◌, ℕ, ◌+◌, ◌<◌, ◌≤◌, Bool, List, [], ◌∷◌, length, Option, Some, None, refl, arith}
 use Rattle.std.specs.Prelude.{position}
 use Rattle.std.specs.List.{AllByRecursion}
 use Rattle.std.proofs.lemmas.List.{length-append}
 use Rattle.std.proofs.lemmas.List.Quantifiers.{position-Some}
-use Rattle.spec_expressions.specs.Expression.{UInt, IsZero, IsOnes, IsFeatureImplemented, Named, ExprOf, Boolean, Integer, Bits, Name, Not, Binary, Call, Set, Join, Slice, Other, no_exprs, expr}
+use Rattle.spec_expressions.specs.Expression.{IsFeatureImplemented, ExprOf, Boolean, Name, Not, Binary, Call, no_exprs, expr}
 use Rattle.spec_features.specs.Features.{FeaturesOf, booleans}
 use Rattle.spec_features.specs.Fact.{same_fact}
 use Rattle.spec_features.specs.Formula.{Connective, connective, Formula}
-use Rattle.spec_features.specs.Theory.{Met, parameter, atom, parameter_or_atom, leaf, negated, both_sides, formula, formulas, theory, states}
+use Rattle.spec_features.specs.Theory.{Met, parameter, atom, parameter_or_atom, leaf, both_sides, formula, formulas, theory, states}
 use Rattle.spec_features.proofs.Encoding.{Uses, uses_wider}
 
 -- what is met only grows, and a formula speaks of what was met

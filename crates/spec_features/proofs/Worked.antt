@@ -1,6 +1,6 @@
 -- The definitions at worked features, by computing.
-use Rattle.std.proofs.Common.{◌≡◌, ℕ, pos, negsuc, Bool, true, false, List, [], ◌∷◌, Some, refl}
-use Rattle.std.specs.Prelude.{◌&&◌, codes, bytes_eq}
+use Rattle.std.proofs.Common.{◌≡◌, ℕ, zero, suc, pos, negsuc, Bool, true, false, List, [], ◌∷◌, ◌++◌, map, Option, Some, None, refl}
+use Rattle.std.specs.Prelude.{find, ◌&&◌, codes, bytes_eq}
 use Rattle.std.specs.List.{list_all}
 use Rattle.spec_refutation.specs.First.{assignment}
 use Rattle.spec_expressions.specs.Expression.{And, Or, Implies, Iff, Eq, IsFeatureImplemented, Named, Expr, Boolean, Name, Not, Binary, Call, Other, no_exprs, expr}
@@ -61,31 +61,29 @@ fourteen_clauses : clauses bytes_eq small_theory clashing ≡
     ∷ (negsuc 0 ∷ []) ∷ []
 fourteen_clauses = refl
 
--- ---- configurations, with one pin or none
+-- ---- configurations, with one pin, two or none
 
-abbrev fitting : List (PinOf (List ℕ)) → List Bool → Bool
-fitting pins g = list_all (holds (assignment g)) small_theory.constraints && list_all (agrees bytes_eq small_theory.names g) pins
+-- all lists of so many states, on before off
+abbrev lists : ℕ → List (List Bool)
+lists zero = [] ∷ []
+lists (suc n) = map (λ g. true ∷ g) (lists n) ++ map (λ g. false ∷ g) (lists n)
 
--- with no pin all but FEAT_TST are on, and no list that stands before this one fits
-first_of_all : fitting [] (true ∷ true ∷ false ∷ true ∷ []) ≡ true
-first_of_all = refl
+-- the first of them that fits
+abbrev first_of : List (PinOf (List ℕ)) → Option (List Bool)
+first_of pins = find (λ g. list_all (holds (assignment g)) small_theory.constraints && list_all (agrees bytes_eq small_theory.names g) pins) (lists 4)
 
-all_on : fitting [] (true ∷ true ∷ true ∷ true ∷ []) ≡ false
-all_on = refl
+-- with no pin all but FEAT_TST are on
+no_pin : first_of [] ≡ Some (true ∷ true ∷ false ∷ true ∷ [])
+no_pin = refl
 
-atom_off_too : fitting [] (true ∷ true ∷ true ∷ false ∷ []) ≡ false
-atom_off_too = refl
+aes_off : first_of ((codes "FEAT_AES", false) ∷ []) ≡ Some (false ∷ false ∷ true ∷ true ∷ [])
+aes_off = refl
 
--- with FEAT_TST on the other two features are off, and the atom is still on
-tst_pinned : fitting ((codes "FEAT_TST", true) ∷ []) (false ∷ false ∷ true ∷ true ∷ []) ≡ true
-tst_pinned = refl
+tst_on : first_of ((codes "FEAT_TST", true) ∷ []) ≡ Some (false ∷ false ∷ true ∷ true ∷ [])
+tst_on = refl
 
--- with FEAT_AES off so is FEAT_PMULL, and FEAT_TST is on
-aes_pinned : fitting ((codes "FEAT_AES", false) ∷ []) (false ∷ false ∷ true ∷ true ∷ []) ≡ true
-aes_pinned = refl
-
-aes_pinned_pmull : fitting ((codes "FEAT_AES", false) ∷ []) (false ∷ true ∷ true ∷ true ∷ []) ≡ false
-aes_pinned_pmull = refl
+clash : first_of clashing ≡ None
+clash = refl
 
 -- the second pin names no feature of these
 third_unknown : unknown_pin bytes_eq small_theory.names ((codes "FEAT_TST", true) ∷ (codes "EL2", true) ∷ []) ≡ Some 1
