@@ -11,3 +11,4 @@ pub mod Header
 pub mod LineEnds
 pub mod Stopped
 pub mod Judging
+pub mod Agreement

@@ -1,0 +1,6 @@
+mod Worked
+pub mod Encoding
+pub mod Assignments
+pub mod Uses
+pub mod Exact
+pub mod Firsts

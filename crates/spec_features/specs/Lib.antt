@@ -1,0 +1,9 @@
+-- Features: parameters and constraints; when two expressions are one fact; formulas; constraints as formulas over
+-- parameters and atoms; which configurations fit, and which is first; and clauses that say the same.
+pub mod Features
+pub mod Fact
+pub mod Formula
+pub mod Theory
+pub mod Fits
+pub mod Clauses
+pub mod Laws
