@@ -16,3 +16,4 @@ pub mod WordReadings
 pub mod LineReadings
 pub mod LogLines
 pub mod LogReadings
+pub mod Failures

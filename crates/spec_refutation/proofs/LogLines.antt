@@ -1,10 +1,10 @@
 -- The first line, a clause's line and a step's line are read as exactly what they say.
 use Rattle.std.proofs.Common.{◌≡◌, ℕ, suc, ◌+◌, ◌^◌, ◌<◌, ◌≤◌, ℤ, pos, negsuc, Bool, true, false, List, [], ◌∷◌, ◌++◌, map, Option, Some, None, refl, sym, ap, ◌∙◌, subst, append-nil, arith}
-use Rattle.std.specs.Prelude.{codes, decimal, flat_map, bytes_eq, nat_le, ◌&&◌, option_map, option_and_then, if◌then◌else◌}
+use Rattle.std.specs.Prelude.{codes, decimal, bytes_eq, nat_le, ◌&&◌, option_map, option_and_then, if◌then◌else◌}
 use Rattle.std.specs.Fmt.{signed_decimal}
 use Rattle.std.specs.List.{AllByRecursion}
 use Rattle.std.specs.Str.Parse.{AllDigits}
-use Rattle.std.proofs.lemmas.Bool.{and_parts, and_from, leb-true, le-leb, both_ways, cond-true, cond-false, false_from_ne_true}
+use Rattle.std.proofs.lemmas.Bool.{and_parts, and_from, leb-true, le-leb, both_ways, cond-false, false_from_ne_true}
 use Rattle.std.proofs.lemmas.List.{append_assoc}
 use Rattle.std.proofs.lemmas.List.Folds.{flat_map-map}
 use Rattle.std.proofs.lemmas.Grind.{flat_map-append}
@@ -14,11 +14,11 @@ use Rattle.std.proofs.lemmas.Fmt.{decimal_is_IsNumeral}
 use Rattle.spec_refutation.specs.Derivation.{Step}
 use Rattle.spec_refutation.specs.Text.{begins_with_digit, spaced_literals, spaced_numbers, first_line, clause_line, step_line}
 use Rattle.spec_refutation.specs.Reading.{AreCounts, IsLiteral, IsHint, IsClause, IsStep}
-use Rattle.spec_refutation.specs.LogReading.{where_true, both, from_all, number, literal, behind, Counts, counts_of, counts, clause, derivation, step}
+use Rattle.spec_refutation.specs.LogReading.{where_true, both, from_all, number, literal, Counts, counts_of, counts, clause, derivation, step}
 use Rattle.spec_refutation.proofs.Numbers.{begins-decimal}
 use Rattle.spec_refutation.proofs.Lines.{heads, clause_line_is, step_line_is, first_line_is}
 use Rattle.spec_refutation.proofs.WordReadings.{Exact, where_true-Some, Some-same, number_exact, literal_exact, from_all_exact}
-use Rattle.spec_refutation.proofs.LineReadings.{spaced, glued, Clean, ExactLine, line_exact}
+use Rattle.spec_refutation.proofs.LineReadings.{spaced, Clean, ExactLine, line_exact}
 
 -- ---- words of digits are clean
 

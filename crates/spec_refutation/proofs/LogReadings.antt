@@ -1,15 +1,14 @@
 -- A text is read as the log whose text it is, and else to the place where it is not as demanded.
-use Rattle.std.proofs.Common.{◌≡◌, ◌≢◌, ◌⊎◌, inl, inr, ⊎_elim, ◌↔◌, ℕ, zero, suc, ◌+◌, ◌-◌, ◌^◌, ◌<◌, ◌≤◌, ℤ, List, [], ◌∷◌, ◌++◌, length, Option, Some, None, Result, Ok, Err, refl, sym, ap, ◌∙◌, subst, append-nil, length-append, arith}
+use Rattle.std.proofs.Common.{◌≡◌, ◌≢◌, inl, inr, ℕ, zero, suc, ◌+◌, ◌-◌, ◌^◌, ◌<◌, ℤ, List, [], ◌∷◌, ◌++◌, length, Option, Some, None, Result, Ok, Err, refl, sym, ap, ◌∙◌, append-nil, length-append, arith}
 use Rattle.std.specs.Prelude.{flat_map}
 use Rattle.std.specs.List.{AllByRecursion}
 use Rattle.std.specs.Result.{result_map_both}
 use Rattle.std.proofs.lemmas.List.{append_assoc}
 use Rattle.spec_refutation.specs.Derivation.{Step}
 use Rattle.spec_refutation.specs.Text.{first_line, clause_line, step_line}
-use Rattle.spec_refutation.specs.Reading.{AreCounts, IsClause, IsStep, NoFirstLine, NoClauseLine, NoStepLine, Reads, Stops, StopsAt, IsFault}
+use Rattle.spec_refutation.specs.Reading.{AreCounts, IsClause, IsStep, Reads, Stops, IsFault}
 use Rattle.spec_refutation.specs.Reading.Stops.{at_clause, at_step, at_end}
 use Rattle.spec_refutation.specs.LogReading.{Log, Counts, counts, clause, step, from_line, first_and, from_lines, ended, with_steps, with_clauses, with_counts, log_or_rest, log_in}
-use Rattle.spec_refutation.proofs.WordReadings.{Some-same}
 use Rattle.spec_refutation.proofs.LineReadings.{ExactLine}
 use Rattle.spec_refutation.proofs.LogLines.{GoodCounts, counts_line, counts_exact, clause_exact, step_exact}
 
