@@ -1,10 +1,10 @@
 -- The node that is told is the first that excludes a word, and there is none exactly where the verdict is not No.
-use Rattle.std.proofs.Common.{◌≡◌, ◌≢◌, ◌∙◌, sym, ap, refl, subst, ℕ, zero, suc, ◌+◌, ◌<◌, Bool, true, false, not, ◌&&◌, ◌||◌, cond, List, [], ◌∷◌, ◌++◌, length, take, Option, Some, None, arith, ◌⊎◌, inl, inr, append_assoc, append-nil, length-append}
+use Rattle.std.proofs.Common.{◌≡◌, ◌≢◌, ◌∙◌, sym, ap, refl, subst, ℕ, zero, suc, ◌+◌, ◌<◌, Bool, true, false, not, cond, List, [], ◌∷◌, ◌++◌, length, take, Some, None, arith, ◌⊎◌, inl, inr, append_assoc, append-nil, length-append}
 use Rattle.std.specs.Prelude.{slice_get, Any}
 use Rattle.std.specs.List.{list_all}
-use Rattle.std.proofs.lemmas.Bool.{and_parts, and_from, or_cases, or_parts, or_from, or_left, or_right, false≢true, false_from_ne_true, not-true, not-false, not_from_true, not_from_false, true_from_ne_false}
+use Rattle.std.proofs.lemmas.Bool.{and_parts, and_from, or_cases, or_parts, or_from, or_left, or_right, false≢true, false_from_ne_true, not-true, not-false, not_from_true, not_from_false}
 use Rattle.std.proofs.lemmas.List.Folds.{list_all-append}
-use Rattle.spec_bits.specs.Item.{Item, item_holds}
+use Rattle.spec_bits.specs.Item.{item_holds}
 use Rattle.spec_expressions.specs.Truth.{Truth, Yes, No, Open, conjunction}
 use Rattle.spec_expressions.specs.Scope.{Configuration}
 use Rattle.spec_instructions.specs.Tree.{Own}
@@ -12,7 +12,7 @@ use Rattle.spec_instructions.specs.Paths.{path_items}
 use Rattle.spec_decode.specs.Verdict.{path_holds, condition_truth, conditions_from, by_items, verdict}
 use Rattle.spec_decode.proofs.VerdictLaws.{right_no, no_rest, some_fails, fails}
 use Rattle.spec_encoding.specs.PathLayout.{is_no, node_excludes, excluded_from, excluded_at}
-use Rattle.spec_encoding.specs.Encoding.{ExcludesAt, IsFirstExcluding, IsExclusion, ExclusionIsExact}
+use Rattle.spec_encoding.specs.Encoding.{IsFirstExcluding, ExclusionIsExact}
 
 no-is : (t : Truth) → is_no t ≡ true → t ≡ No
 no-is Yes h = absurd (cc)

@@ -9,3 +9,4 @@ pub mod ExclusionLaws
 pub mod PathLaws
 pub mod EncodingLaws
 pub mod Worked
+pub mod ByNumbers

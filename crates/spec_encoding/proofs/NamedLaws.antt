@@ -1,21 +1,17 @@
 -- Values of named fields are encoded to a word exactly where that word has them.
-use Rattle.std.specs.Prelude.{Result, find, is_none, filter, option_map}
-use Rattle.std.proofs.Common.{◌≡◌, ◌≢◌, ◌∙◌, sym, ap, refl, subst, ℕ, zero, suc, ◌+◌, ◌^◌, ◌<◌, ◌≤◌, Bool, true, false, not, ◌&&◌, ◌||◌, cond, List, [], ◌∷◌, ◌++◌, map, All, Option, Some, None, Ok, Err, arith, ◌⊎◌, inl, inr}
+use Rattle.std.specs.Prelude.{is_none, option_map}
+use Rattle.std.proofs.Common.{◌≡◌, ◌∙◌, sym, ap, refl, subst, ℕ, ◌+◌, ◌^◌, ◌<◌, ◌≤◌, Bool, true, false, not, ◌&&◌, ◌||◌, cond, List, [], ◌∷◌, ◌++◌, map, All, Option, Some, None, Ok, arith, inl, inr}
 use Rattle.std.specs.Bool.{Decides}
 use Rattle.std.specs.List.{list_any, position_from}
-use Rattle.std.proofs.lemmas.Bool.{and_parts, and_from, and_right, or_cases, or_parts, or_from, or_left, or_right, cases_Bool, false_from_ne_true, false≢true, not-true, not-false, not_from_false, le-ltb}
+use Rattle.std.proofs.lemmas.Bool.{and_parts, and_from, and_right, or_parts, or_from, not-true, not-false, not_from_false, le-ltb}
 use Rattle.std.proofs.lemmas.List.Folds.{list_any-append}
-use Rattle.std.proofs.lemmas.List.Elements.{All-nil, All-cons, All-head, All-tail}
 use Rattle.spec_bits.specs.Bits.{bit_of, slice}
 use Rattle.spec_encoding.specs.Parts.{Part, covers}
 use Rattle.spec_encoding.specs.Layout.{Layout, rest_in}
-use Rattle.spec_encoding.specs.Refusal.{Refusal, UnknownField, DoubledField, MissingField, unless}
-use Rattle.spec_encoding.specs.Placed.{placed}
+use Rattle.spec_encoding.specs.Refusal.{UnknownField, DoubledField, MissingField}
 use Rattle.spec_encoding.specs.Named.{FieldOf, field_for, is_unknown, is_paired, doubled_from, missing, part_from, parts, encoded}
-use Rattle.spec_encoding.proofs.Members.{In, any-In, In-any, any-none, All-In, All-each, none-any, In-map, map-In, find-In, find-none, none-find, position-none, none-position, not_none, none_mapped}
-use Rattle.spec_encoding.proofs.BitLaws.{number_of_bits-lt}
-use Rattle.spec_encoding.proofs.PartLaws.{AreWithin, some_cover, HasSlices}
-use Rattle.spec_encoding.proofs.PlacedLaws.{HasParts, IsLayout, unless-Ok, unless-None, placed-from, placed-to, one_word, flipped-lt}
+use Rattle.spec_encoding.proofs.Members.{In, any-In, In-any, any-none, All-In, All-each, none-any, In-map, map-In, find-In, find-none, none-find, position-none, none-position, none_mapped}
+use Rattle.spec_encoding.proofs.PlacedLaws.{HasParts, IsLayout, unless-Ok, unless-None, placed-from, placed-to, one_word}
 
 module _ {N : Type 0} (same : N → N → Bool) (tells : (a b : N) → Decides (same a b) (a ≡ b)) where
   -- no name of a pair stands in a later one

@@ -1,15 +1,14 @@
 -- Laws of the shown fields and the bits of a path.
-use Rattle.std.proofs.Common.{◌≡◌, ◌≢◌, ◌∙◌, sym, ap, refl, subst, ℕ, zero, suc, ◌+◌, ◌-◌, ◌^◌, ◌<◌, ◌≤◌, Bool, true, false, not, ◌&&◌, ◌||◌, cond, List, [], ◌∷◌, ◌++◌, length, map, All, Option, Some, None, arith, ◌⊎◌, inl, inr}
-use Rattle.std.specs.Prelude.{filter, is_none, bytes_eq, nat_lt, flat_map, option_and_then}
+use Rattle.std.proofs.Common.{◌≡◌, ◌≢◌, ◌∙◌, sym, ap, refl, subst, ℕ, zero, suc, ◌+◌, ◌-◌, ◌<◌, ◌≤◌, Bool, true, false, not, ◌||◌, cond, List, [], ◌∷◌, length, map, All, Option, Some, None, arith, ◌⊎◌, inl, inr}
+use Rattle.std.specs.Prelude.{filter, is_none, bytes_eq, nat_lt, option_and_then}
 use Rattle.std.specs.Option.{option_or}
-use Rattle.std.specs.List.{list_any, list_all, position_from, range_with_len}
-use Rattle.std.proofs.lemmas.Bool.{and_parts, and_from, or_cases, or_left, or_right, or_parts, or_from, cases_Bool, false≢true, false_from_ne_true, not-true, not-false, not_from_false, true_from_ne_false, cases_eq, leb-true, ltb-true, lt-ltb}
+use Rattle.std.specs.List.{list_any, list_all, range_with_len}
+use Rattle.std.proofs.lemmas.Bool.{and_parts, and_from, or_cases, or_left, or_right, or_parts, or_from, false≢true, false_from_ne_true, not-true, not_from_false, true_from_ne_false, cases_eq, leb-true, ltb-true, lt-ltb}
 use Rattle.std.proofs.lemmas.Slice.Eq.{bytes_eq-Decides}
-use Rattle.std.proofs.lemmas.List.Folds.{list_all-append}
-use Rattle.std.proofs.lemmas.List.Elements.{All-nil, All-cons, All-head, All-tail, All-filter, All-map}
+use Rattle.std.proofs.lemmas.List.Elements.{All-nil, All-cons, All-head, All-tail, All-filter}
 use Rattle.spec_bits.specs.Bits.{bit_of}
 use Rattle.spec_bits.specs.Pattern.{Digit, Zero, One, Either, digit_for, digit_value, value_at}
-use Rattle.spec_bits.specs.Item.{Item, value_from, fixed_digits, fixes, item_holds}
+use Rattle.spec_bits.specs.Item.{Item, fixed_digits, fixes, item_holds}
 use Rattle.spec_bits.proofs.ItemLaws.{item_holds-each}
 use Rattle.spec_expressions.specs.Scope.{Configuration}
 use Rattle.spec_instructions.specs.Tree.{Own}
@@ -59,7 +58,7 @@ held (it ∷ items) w i b all h = go (held items w i b parts.1) (fixes it i) ref
 
 -- ---- fields
 
-abbrev field_shown : List Own → FieldOf (List ℕ) → Bool
+abbrev pub field_shown : List Own → FieldOf (List ℕ) → Bool
 field_shown path f = is_open (fixed_at path) f.start f.width
 
 abbrev Within : FieldOf (List ℕ) → Type 0
@@ -157,7 +156,7 @@ shown-cover path (f ∷ fs) i clear h = go (field_shown path f) refl (shown-cove
     go false e further (inl c) = absurd (false≢true (sym e ∙ here c))
     go false e further (inr r) = further r
 
-shown-named : (path : List Own) (fs : List Field) → filter (field_shown path) (map named_field fs) ≡ map named_field (filter (is_shown path) fs)
+pub shown-named : (path : List Own) (fs : List Field) → filter (field_shown path) (map named_field fs) ≡ map named_field (filter (is_shown path) fs)
 shown-named path [] = refl
 shown-named path (f ∷ fs) = ap (λ gs. cond (is_shown path f) (named_field f ∷ gs) gs) (shown-named path fs) ∙ go (is_shown path f)
   where

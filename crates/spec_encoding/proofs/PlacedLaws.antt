@@ -1,14 +1,14 @@
 -- A word is made exactly where there is one with the values and the rest, and then it is that one.
 use Rattle.std.specs.Prelude.{Result}
-use Rattle.std.proofs.Common.{◌≡◌, ◌≢◌, ◌∙◌, sym, ap, refl, subst, ℕ, zero, suc, ◌+◌, ◌-◌, ◌%◌, ◌^◌, ◌<◌, ◌≤◌, Bool, true, false, not, ◌&&◌, ◌||◌, ◌==◌, cond, List, [], ◌∷◌, All, Option, Some, None, Ok, Err, arith, ◌⊎◌, inl, inr}
+use Rattle.std.proofs.Common.{◌≡◌, ◌≢◌, ◌∙◌, sym, ap, refl, subst, ℕ, zero, suc, ◌+◌, ◌-◌, ◌%◌, ◌^◌, ◌<◌, Bool, true, false, not, ◌==◌, cond, List, [], ◌∷◌, Option, Some, None, Ok, arith, ◌⊎◌, inl, inr}
 use Rattle.std.specs.List.{position_from}
-use Rattle.std.proofs.lemmas.Bool.{and_parts, and_from, and_left, and_right, and_cases, cases_Bool, cond-true, cond-false, cond_both, false_from_ne_true, false≢true, not-true, not-false, not_from_true, not_from_false, eqb-true, eq-eqb, ne_eqb, leb-true, leb-false, lt-leb}
+use Rattle.std.proofs.lemmas.Bool.{and_parts, and_from, and_left, and_right, cases_Bool, cond-true, cond-false, cond_both, false_from_ne_true, false≢true, not_from_true, not_from_false, eq-eqb, ne_eqb, leb-false, lt-leb}
 use Rattle.std.proofs.lemmas.Nat.{mod_below}
-use Rattle.std.proofs.lemmas.Nat.Bits.{bit_at-lt, same_from_bits_below}
+use Rattle.std.proofs.lemmas.Nat.Bits.{bit_at-lt}
 use Rattle.std.proofs.lemmas.List.Elements.{All-nil, All-cons, All-head, All-tail}
 use Rattle.spec_bits.specs.Bits.{bit_of, slice}
 use Rattle.spec_bits.proofs.BitLaws.{slice-lt}
-use Rattle.spec_encoding.specs.Parts.{Part, some_gives, is_too_wide, is_clash, highest, number_of_bits}
+use Rattle.spec_encoding.specs.Parts.{Part, some_gives, is_too_wide, is_clash, highest}
 use Rattle.spec_encoding.specs.Layout.{Layout, flipped, rest_in, is_against, is_misfixed, is_stray}
 use Rattle.spec_encoding.specs.Refusal.{Refusal, TooWide, Clash, FixedBit, RestBit, Excluded, unless}
 use Rattle.spec_encoding.specs.Placed.{not_given, made_bit, made, placed}

@@ -1,7 +1,7 @@
 -- Names under other names, as numbers for texts: what is encoded stays the same, and a refusal is told by the other name.
 use Rattle.std.specs.Prelude.{Result, find, is_none, option_map}
-use Rattle.std.proofs.Common.{◌≡◌, ◌∙◌, sym, ap, refl, ℕ, ◌+◌, Bool, true, false, not, ◌||◌, cond, List, [], ◌∷◌, ◌++◌, map, All, Option, Some, None, Ok, Err}
-use Rattle.std.specs.List.{list_any, position_from}
+use Rattle.std.proofs.Common.{◌≡◌, ◌∙◌, ap, refl, ℕ, ◌+◌, Bool, true, false, not, ◌||◌, cond, List, [], ◌∷◌, ◌++◌, map, All, Option, Some, None, Ok, Err}
+use Rattle.std.specs.List.{position_from}
 use Rattle.std.proofs.lemmas.List.Elements.{All-head, All-tail, All-append, All-cons, All-nil}
 use Rattle.spec_encoding.specs.Parts.{Part, is_too_wide, is_clash, highest}
 use Rattle.spec_encoding.specs.Layout.{Layout, is_misfixed, is_stray}

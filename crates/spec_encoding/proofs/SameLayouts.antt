@@ -1,11 +1,10 @@
 -- What is encoded rests on the word's 32 bits alone: two accounts of a path that agree there are as good as one.
-use Rattle.std.specs.Prelude.{Result}
-use Rattle.std.proofs.Common.{◌≡◌, ◌∙◌, sym, ap, refl, ℕ, zero, suc, ◌+◌, ◌*◌, ◌%◌, ◌^◌, ◌<◌, ◌≤◌, Bool, true, false, not, ◌&&◌, ◌==◌, cond, List, [], Option, Some, None, Ok, arith}
+use Rattle.std.proofs.Common.{◌≡◌, ◌∙◌, ap, refl, ℕ, zero, suc, ◌+◌, ◌*◌, ◌%◌, ◌^◌, ◌<◌, Bool, true, false, not, ◌&&◌, ◌==◌, cond, List, [], Option, Some, None, Ok, arith}
 use Rattle.std.specs.List.{position_from}
 use Rattle.spec_bits.specs.Bits.{bit_of}
 use Rattle.spec_encoding.specs.Parts.{Part, some_gives, is_too_wide, is_clash, highest, number_of_bits}
 use Rattle.spec_encoding.specs.Layout.{Layout, flipped, rest_in, is_against, is_misfixed, is_stray}
-use Rattle.spec_encoding.specs.Refusal.{Refusal, UnknownField, DoubledField, MissingField, TooWide, Clash, FixedBit, RestBit, Excluded, unless}
+use Rattle.spec_encoding.specs.Refusal.{UnknownField, DoubledField, MissingField, TooWide, Clash, FixedBit, RestBit, Excluded, unless}
 use Rattle.spec_encoding.specs.Placed.{not_given, made_bit, made, placed}
 use Rattle.spec_encoding.specs.Named.{FieldOf, is_unknown, doubled_from, missing, encoded, parts}
 use Rattle.spec_encoding.proofs.BitLaws.{highest-same}

@@ -1,6 +1,6 @@
 -- Worked values: fields that overlap and are partly fixed, should-be bits in the rest, a path to an alias, and excluded words.
-use Rattle.std.specs.Prelude.{◌≡◌, ℕ, List, [], ◌∷◌, ◌++◌, Bool, true, false, Some, None, Ok, Err, map, filter_map, codes, refl}
-use Rattle.spec_bits.specs.Pattern.{Digit, One, Either}
+use Rattle.std.specs.Prelude.{◌≡◌, ℕ, List, [], ◌∷◌, true, false, Some, None, Ok, Err, map, filter_map, codes, refl}
+use Rattle.spec_bits.specs.Pattern.{Digit}
 use Rattle.spec_bits.specs.PatternText.{digit_of}
 use Rattle.spec_bits.specs.Item.{Item}
 use Rattle.spec_expressions.specs.Expression.{Name, Call, IsFeatureImplemented, exprs_of}

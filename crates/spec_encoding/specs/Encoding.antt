@@ -1,5 +1,5 @@
 -- The word that values of the shown fields and a rest are encoded to along a path, under a configuration.
-use Rattle.std.specs.Prelude.{ℕ, ◌^◌, ◌≡◌, ◌≢◌, ◌<◌, ◌↔◌, ◌⊎◌, bytes_eq, List, map, take, All, Any, AllPairs, Option, Some, None, Result, Ok, slice_get, false}
+use Rattle.std.specs.Prelude.{ℕ, ◌^◌, ◌≡◌, ◌≢◌, ◌<◌, ◌↔◌, ◌⊎◌, bytes_eq, List, map, take, All, Any, AllPairs, Some, None, Result, Ok, slice_get, false}
 use Rattle.spec_bits.specs.Bits.{slice}
 use Rattle.spec_bits.specs.Item.{item_holds}
 use Rattle.spec_expressions.specs.Truth.{No}
