@@ -47,7 +47,7 @@ impl Model for ArenaBuilder {
 }
 
 impl ArenaBuilder {
-    ghost use Rattle.std.specs.Prelude.{◌≡◌, ◌<◌, ◌↔◌, [], ◌∷◌, ◌++◌, length, IsTrue, nat_le, All, IfOk, OnOk, OnErr, option_map, true, false};
+    ghost use Rattle.std.specs.Prelude.{◌≡◌, ◌<◌, ◌↔◌, [], ◌∷◌, ◌++◌, ◌≤◌, length, IsTrue, nat_le, All, IfOk, OnOk, OnErr, option_map, true, false};
     ghost use Rattle.mrs_arena.specs.Paths.{IsPlace};
     ghost use Rattle.mrs_arena.specs.Views.{flat_item};
     ghost use Rattle.mrs_arena.specs.Nodes.{parents_of, last_items, new_node, with_item, with_condition, with_preferred, is_taken};
@@ -163,6 +163,7 @@ impl ArenaBuilder {
 
         ensures too_many { result ≡ Err BuildFault.TooMany → is_list_refused self.old.parts (length parts.now) ≡ true }
         ensures unchanged { OnErr result (self.new ≡ self.old) }
+        ensures few { length self.old.exprs ≤ expression_limit }
     {
         let list = self.table.push_list(parts)?;
         Ok(list)
