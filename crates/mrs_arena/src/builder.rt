@@ -163,7 +163,6 @@ impl ArenaBuilder {
 
         ensures too_many { result ≡ Err BuildFault.TooMany → is_list_refused self.old.parts (length parts.now) ≡ true }
         ensures unchanged { OnErr result (self.new ≡ self.old) }
-        ensures few { length self.old.exprs ≤ expression_limit }
     {
         let list = self.table.push_list(parts)?;
         Ok(list)

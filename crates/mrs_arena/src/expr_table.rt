@@ -82,7 +82,6 @@ impl ExprTable {
 
         ensures too_many { result ≡ Err BuildFault.TooMany → is_list_refused self.old.parts (length parts.now) ≡ true }
         ensures unchanged { OnErr result (self.new ≡ self.old) }
-        ensures few { length self.old.exprs ≤ expression_limit }
     {
         let from = self.parts.len();
         if parts.len() > MOST_EXPRESSIONS - from {

@@ -38,12 +38,3 @@ returns-clause-put c =
     ap (table_of es) (ap numbers c.in_ok-extend_from_slice.ensures.items ∙ map-append (λ id. id.0) ids more)
     ∙ ap (with_nested (numbers ids ++ numbers more)) (nested-more (numbers ids) (numbers more) es c.self.invariant.below)
     ∙ ap (listed_too more) c.self.view_is
-
-pub returns-then-parts-from-clause-few : goal.returns-then-parts-from-clause-few
-returns-then-parts-from-clause-few c = omega (arith, c.self.invariant.few, length-put c.self.inside.exprs.items (numbers c.self.inside.parts.items) c.args.self.now c.self.view_is)
-
-pub returns-in_err-extend_from_slice-clause-few : goal.returns-in_err-extend_from_slice-clause-few
-returns-in_err-extend_from_slice-clause-few c = omega (arith, c.self.invariant.few, length-put c.self.inside.exprs.items (numbers c.self.inside.parts.items) c.args.self.now c.self.view_is)
-
-pub returns-clause-few : goal.returns-clause-few
-returns-clause-few c = omega (arith, c.self.invariant.few, length-put c.self.inside.exprs.items (numbers c.self.inside.parts.items) c.args.self.now c.self.view_is)
