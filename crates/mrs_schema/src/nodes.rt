@@ -18,8 +18,8 @@ ghost use Rattle.mrs_schema.specs.Nodes.{children, whole, named_above};
 
 use crate::draft::Draft;
 use crate::items::read_encodeset;
-use crate::names::is_name;
 use mrs_arena::{Kind, NodeId};
+use mrs_names::is_name;
 use mrs_walk::{Here, ReadFault, Why};
 
 /// What stands in the `children` of a node.
