@@ -2,7 +2,7 @@
 use Rattle.std.proofs.Common.{◌≡◌, ◌∙◌, refl, ap, ℕ, zero, suc, ◌+◌, ◌*◌, ◌/◌, ◌%◌, ◌^◌, ◌<◌, ◌==◌, true, cond, List, ◌∷◌, length, Option, Some, option_map, option_and_then, arith, pow_pos, mod-lt, mod-eq_of_lt, sym, ap₂, ◌-◌, ◌≤◌, drop, take, slice_range, pos, nat_le, nat_lt}
 use Rattle.std.specs.Prelude.{if◌then◌else◌}
 use Rattle.std.proofs.lemmas.Nat.{shr-shr}
-use Rattle.spec_bits.proofs.BitLaws.{bit_of-slice}
+use Rattle.spec_bits.proofs.BitLaws.{bit_of-slice, mod-bit}
 use Rattle.std.proofs.Math.Nat.{mod-one}
 use Rattle.std.proofs.lemmas.Bool.Decides.{nat_tests}
 use Rattle.spec_bits.specs.Bits.{bit_of, slice}
@@ -11,7 +11,6 @@ use Rattle.spec_expressions.specs.Truth.{truth_of}
 use Rattle.spec_expressions.specs.Digits.{low_digits, number_of, equal_digits, digits_between}
 use Rattle.spec_expressions.specs.Scope.{Field, field_digits}
 use Rattle.spec_expressions.specs.Laws.{AreSlices}
-use Rattle.spec_expressions.proofs.DigitLaws.{mod-bit}
 
 low_digits-length : (n w : ℕ) → length (low_digits n w) ≡ n
 low_digits-length zero w = refl
