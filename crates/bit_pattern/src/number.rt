@@ -7,7 +7,7 @@ use crate::range::Range;
 use crate::slicing::slice;
 
 impl Pattern {
-    ghost use Rattle.std.specs.Prelude.{◌≡◌};
+    ghost use Rattle.std.specs.Prelude.{◌≡◌, ◌<◌, ◌^◌, IfSome};
     ghost use Rattle.spec_bits.specs.Bits.{slice};
     ghost use Rattle.spec_bits.specs.Number.{low_digits, number_of};
     ghost use Rattle.bit_pattern.specs.Views.{digits_of};
@@ -26,7 +26,8 @@ impl Pattern {
 
     /// The number that the digits write; `None` where one of them is `x`.
     pub fn number(&self) -> Option<u128>
-        ensures { result ≡ number_of (digits_of self.now) }
+        ensures number { result ≡ number_of (digits_of self.now) }
+        ensures fits { IfSome result (λ n. n < 2 ^ self.now.width) }
     {
         if self.mask == ones(self.width) {
             Some(self.value)
