@@ -11,7 +11,7 @@ use Rattle.spec_bits.proofs.PatternLaws.{joined-none, length-joined, pattern_hol
 use Rattle.spec_bits.proofs.ItemLaws.{length-chosen_digits}
 use Rattle.spec_instructions.specs.Fields.{word_digits, joined_items, merged, IsWithinWord}
 use Rattle.spec_instructions.proofs.MergedLaws.{length-word_digits}
-use Rattle.spec_decode.specs.Found.{path_holds}
+use Rattle.spec_decode.specs.Verdict.{path_holds}
 use Rattle.mrs_arena.specs.Flat.{FlatItem, FlatNode}
 use Rattle.mrs_arena.specs.Formed.{IsItem, AreNodes}
 use Rattle.mrs_arena.specs.Placed.{item_of, path_to}

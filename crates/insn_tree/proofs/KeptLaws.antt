@@ -10,7 +10,7 @@ use Rattle.bit_pattern.specs.declared.pattern.Pattern.{Pattern}
 use Rattle.bit_pattern.specs.Views.{digits_of}
 use Rattle.spec_instructions.specs.Fields.{merged, fields}
 use Rattle.spec_instructions.specs.Paths.{label, labelled_leaf, has_label}
-use Rattle.spec_decode.specs.Found.{path_holds}
+use Rattle.spec_decode.specs.Verdict.{path_holds}
 use Rattle.spec_walk.specs.Limits.{node_limit}
 use Rattle.mrs_names.specs.Texts.{AreNames}
 use Rattle.mrs_names.specs.declared.name_id.NameId.{NameId}

@@ -44,7 +44,7 @@ impl Tree {
     ghost use Rattle.mrs_arena.specs.Placed.{leaves_of, aliases_of, AreHeld};
     ghost use Rattle.spec_instructions.specs.Paths.{label, labelled_leaf};
     ghost use Rattle.spec_instructions.specs.Fields.{merged, fields};
-    ghost use Rattle.spec_decode.specs.Found.{path_holds};
+    ghost use Rattle.spec_decode.specs.Verdict.{path_holds};
     ghost use Rattle.insn_tree.specs.Trees.{IsOf, tree_paths, path_at, label_text, label_number, field_of, IsLeafAbove};
 
     /// The tree of an arena, the texts of whose names are held by `names`.

@@ -6,6 +6,7 @@ use Rattle.std.proofs.lemmas.List.{length_push}
 use Rattle.std.proofs.lemmas.List.Elements.{All-push, All-pop, All-nil}
 use Rattle.std.proofs.lemmas.List.Quantifiers.{all_pairs_push}
 use Rattle.spec_walk.specs.Limits.{alias_limit, leaf_limit, node_limit}
+use Rattle.spec_expressions.specs.Expression.{ExprOf}
 use Rattle.spec_instructions.specs.Limits.{item_limit, named_limit}
 use Rattle.mrs_arena.specs.declared.kind.Kind.{Kind}
 use Rattle.mrs_arena.specs.declared.kind.Kind.TheVariants.{Set, Group, Leaf, Alias}
@@ -137,4 +138,20 @@ AreNodes-item nodes node it are is free room =
       items = All-push HasItems nodes (grown node it) split.0 (AreItems-push node.items it split.1 is free (omega (arith, ap length (last_items-push nodes node))));
       few_named =
           named_below nodes (grown node it) (λ n h. let low = are.few_named n (omega (arith, length_push nodes node)) in omega (arith, named_on-append nodes (node ∷ []) n h)) (omega arith);
+    }
+
+-- what a node says in its expressions does not matter
+pub AreNodes-saying : (nodes : List FlatNode) (node : FlatNode) (condition preferred : Option (ExprOf ℕ)) → AreNodes (nodes ++ node ∷ []) → AreNodes (nodes ++ (record node { condition = condition; preferred = preferred }) ∷ [])
+AreNodes-saying nodes node condition preferred are =
+    let new = record node { condition = condition; preferred = preferred } in
+    let split = All-pop HasItems (nodes ++ node ∷ []) nodes (Some node) refl are.items in
+    let last = are.few_named (length nodes) (omega (arith, length_push nodes node)) in
+    record {
+      few = omega (arith, length_push nodes node, length_push nodes new, are.few);
+      few_leaves = omega (arith, leaf_count-push nodes node, leaf_count-push nodes new, are.few_leaves);
+      few_aliases = omega (arith, alias_count-push nodes node, alias_count-push nodes new, are.few_aliases);
+      preorder = subst IsPreorder (parents_of-append nodes (node ∷ []) ∙ sym (parents_of-append nodes (new ∷ []))) are.preorder;
+      items = All-push HasItems nodes new split.0 split.1;
+      few_named =
+          named_below nodes new (λ n h. let low = are.few_named n (omega (arith, length_push nodes node)) in omega (arith, named_on-append nodes (node ∷ []) n h)) (omega (arith, named_on-push nodes node, last));
     }

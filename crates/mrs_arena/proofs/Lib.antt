@@ -4,6 +4,7 @@ pub mod EndLaws
 pub mod AlongLaws
 pub mod LastOneLaws
 pub mod NodeLaws
+pub mod ExprLaws
 pub mod HeldLaws
 pub mod PutLaws
 pub mod FormedLaws

@@ -1,7 +1,8 @@
--- What is put into an arena: nodes, each with its items.
+-- What is put into an arena: nodes, each with its items and its expressions.
 use Rattle.std.specs.Prelude.{ℕ, Bool, List, Option}
 use Rattle.spec_bits.specs.Pattern.{Digit}
 use Rattle.spec_bits.specs.Item.{Item}
+use Rattle.spec_expressions.specs.Expression.{ExprOf}
 use Rattle.mrs_arena.specs.declared.kind.Kind.{Kind}
 
 -- the digits stand in the word from bit `start` up, with one mark for each; the name is a number
@@ -11,16 +12,34 @@ pub record FlatItem : Type 0 where
   pub digits : List Digit
   pub marks : List Bool
 
--- a node, with the number of the node above it
+-- a node, with the number of the node above it; names in its expressions are numbers
 pub record FlatNode : Type 0 where
   pub kind : Kind
   pub name : ℕ
   pub parent : Option ℕ
   pub items : List FlatItem
+  pub condition : Option (ExprOf ℕ)
+  pub preferred : Option (ExprOf ℕ)
 
--- a node of an arena: what was put, and the number after its subtree
+-- an arena: its nodes, and the expression of each number
+pub record ArenaParts : Type 0 where
+  pub nodes : List FlatNode
+  pub exprs : List (ExprOf ℕ)
+
+-- what a builder has taken: besides them all parts of lists of expressions, one list behind the other
+pub record Built : Type 0 where
+  pub nodes : List FlatNode
+  pub exprs : List (ExprOf ℕ)
+  pub parts : List ℕ
+
+-- a node of an arena as it is read back: its expressions by their numbers, and the number after its subtree
 pub record ArenaNode : Type 0 where
-  pub own : FlatNode
+  pub kind : Kind
+  pub name : ℕ
+  pub parent : Option ℕ
+  pub items : List FlatItem
+  pub condition : Option ℕ
+  pub preferred : Option ℕ
   pub end : ℕ
 
 -- the item with the text that its name is the number of

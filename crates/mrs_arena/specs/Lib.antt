@@ -1,5 +1,8 @@
 pub mod Flat
+pub mod Expressions
 pub mod Views
+pub mod Table
+pub mod Codes
 pub mod Paths
 pub mod Nodes
 pub mod Limits

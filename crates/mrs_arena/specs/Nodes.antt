@@ -1,6 +1,7 @@
 -- Lists of nodes, numbered from 0: their parents and items, and what is put last.
 use Rattle.std.specs.Prelude.{ℕ, ◌-◌, Bool, false, ◌==◌, List, [], ◌∷◌, ◌++◌, length, map, flat_map, count_by, slice_index_or, Option, Some, None, is_some, option_map, unwrap_or}
 use Rattle.std.specs.List.{list_any}
+use Rattle.spec_expressions.specs.Expression.{ExprOf}
 use Rattle.mrs_arena.specs.declared.kind.Kind.{Kind}
 use Rattle.mrs_arena.specs.Flat.{FlatItem, FlatNode}
 use Rattle.mrs_arena.specs.Paths.{ancestors}
@@ -22,9 +23,9 @@ items_upward nodes n = flat_map (node_items nodes) (ancestors (parents_of nodes)
 abbrev pub named_on : List FlatNode → ℕ → ℕ
 named_on nodes n = count_by (λ it. is_some it.name) (items_upward nodes n)
 
--- a node without items
+-- a node without items and expressions
 abbrev pub new_node : Kind → ℕ → Option ℕ → FlatNode
-new_node kind name parent = record { kind = kind; name = name; parent = parent; items = [] }
+new_node kind name parent = record { kind = kind; name = name; parent = parent; items = []; condition = None; preferred = None }
 
 -- a list with something else made of its last element
 abbrev pub at_last : {X : Type 0} → (X → X) → List X → List X
@@ -35,6 +36,13 @@ at_last f (x ∷ y ∷ rest) = x ∷ at_last f (y ∷ rest)
 -- the nodes with one more item at the last of them
 abbrev pub with_item : FlatItem → List FlatNode → List FlatNode
 with_item it nodes = at_last (λ node. record node { items = node.items ++ it ∷ [] }) nodes
+
+-- the nodes with a condition, and with a preference, at the last of them
+abbrev pub with_condition : ExprOf ℕ → List FlatNode → List FlatNode
+with_condition e nodes = at_last (λ node. record node { condition = Some e }) nodes
+
+abbrev pub with_preferred : ExprOf ℕ → List FlatNode → List FlatNode
+with_preferred e nodes = at_last (λ node. record node { preferred = Some e }) nodes
 
 -- one of the items has the name, if there is one
 abbrev pub has_name_id : ℕ → FlatItem → Bool

@@ -2,6 +2,7 @@
 use Rattle.std.specs.Prelude.{◌≡◌, ℕ, ◌+◌, ◌<◌, Bool, false, List, [], ◌∷◌, ◌++◌, length, map, reverse, filter, slice_get, slice_index_or, All, Option, Some, None, option_map, unwrap_or, IfSome}
 use Rattle.std.specs.List.{range_with_len}
 use Rattle.spec_bits.specs.Item.{Item}
+use Rattle.spec_expressions.specs.Expression.{Expr, ExprOf, with_names, EachName}
 use Rattle.spec_instructions.specs.Kind as kind
 use Rattle.spec_instructions.specs.Kind.{Kind}
 use Rattle.spec_instructions.specs.Tree.{Own, bare, Node, node, Nodes, no_nodes, more}
@@ -25,12 +26,20 @@ kind_of variant.Group = kind.Group
 kind_of variant.Leaf = kind.Leaf
 kind_of variant.Alias = kind.Alias
 
--- what a node says of itself, with its name and its items by their texts
-abbrev pub own_with : FlatNode → List ℕ → List Item → Own
-own_with n name items = record { kind = kind_of n.kind; name = name; items = items }
+-- an expression with the texts of its names
+abbrev pub expr_of : List (List ℕ) → ExprOf ℕ → Expr
+expr_of names e = with_names (text_of names) e
 
+-- what a node says of itself, with the texts of its names
 abbrev pub own_of_flat : List (List ℕ) → FlatNode → Own
-own_of_flat names n = own_with n (text_of names n.name) (map (item_of names) n.items)
+own_of_flat names n =
+    record {
+      kind = kind_of n.kind;
+      name = text_of names n.name;
+      items = map (item_of names) n.items;
+      condition = option_map (expr_of names) n.condition;
+      preferred = option_map (expr_of names) n.preferred;
+    }
 
 -- a node of a tree, with the number of the node above it
 pub record Placed : Type 0 where
@@ -84,10 +93,16 @@ paths_of names nodes = map (path_to names nodes) (leaves_of nodes)
 abbrev pub IsHeldItem : List (List ℕ) → FlatItem → Type 0
 IsHeldItem names it = IfSome it.name (λ id. id < length names)
 
--- the names of a node and of its items are held
+-- each name in an expression that may be there is held
+abbrev pub IsHeldExpr : List (List ℕ) → Option (ExprOf ℕ) → Type 0
+IsHeldExpr names e = IfSome e (EachName (λ id. id < length names))
+
+-- the names of a node, of its items and in its expressions are held
 pub record IsHeldNode (names : List (List ℕ)) (n : FlatNode) : Type 0 where
   pub own : n.name < length names
   pub items : All (IsHeldItem names) n.items
+  pub condition : IsHeldExpr names n.condition
+  pub preferred : IsHeldExpr names n.preferred
 
 abbrev pub AreHeld : List (List ℕ) → List FlatNode → Type 0
 AreHeld names nodes = All (IsHeldNode names) nodes

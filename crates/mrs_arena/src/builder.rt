@@ -1,10 +1,13 @@
-//! Puts nodes and their items, in document order.
+//! Puts nodes, their items and expressions, in document order.
 
 ghost use Rattle.std.specs.Prelude.{◌≡◌, ◌<◌, length, option_map, IfSome};
 ghost use Rattle.mrs_arena.specs.Inside.{kept_count};
 
 use crate::arena::Arena;
 use crate::ends::fill_ends;
+use crate::expr::{Expr, ExprList};
+use crate::expr_id::ExprId;
+use crate::expr_table::ExprTable;
 use crate::fault::BuildFault;
 use crate::item::Item;
 use crate::kind::Kind;
@@ -17,44 +20,50 @@ use mrs_names::NameId;
 use std::alloc::Global;
 use std::marker::Model;
 
-/// Nodes that are put one by one, each below the last one or a node above that, and the last one's items.
+/// Nodes that are put one by one, each below the last one or a node above that, and the last one's items and expressions.
 ///
-/// A clause sees the list of the nodes.
+/// A clause sees the list of the nodes, that of the expressions, and all parts of lists of expressions.
 #[derive(Drop)]
 pub struct ArenaBuilder {
     nodes: Vec<StoredNode>,
     items: Vec<Item>,
+    table: ExprTable,
     leaves: u32,
     aliases: u32,
 }
 
 impl Model for ArenaBuilder {
-    ghost use Rattle.std.specs.Prelude.{List};
-    ghost use Rattle.mrs_arena.specs.Flat.{FlatNode};
+    ghost use Rattle.mrs_arena.specs.Flat.{Built};
+    ghost use Rattle.mrs_arena.specs.Codes.{built_code};
     ghost use Rattle.mrs_arena.specs.Inside.{flat_nodes, AreOpen};
 
-    ghost Value = { List FlatNode };
+    ghost Value = { Built };
 
-    ghost view = { λ b. flat_nodes b.items.items b.nodes.items };
+    ghost coded = { built_code };
 
-    ghost invariant = { λ b. AreOpen b.nodes.items b.items.items b.leaves b.aliases };
+    ghost view = { λ b. record { nodes = flat_nodes b.table.exprs b.items.items b.nodes.items; exprs = b.table.exprs; parts = b.table.parts } };
+
+    ghost invariant = { λ b. AreOpen b.table.exprs b.nodes.items b.items.items b.leaves b.aliases };
 }
 
 impl ArenaBuilder {
-    ghost use Rattle.std.specs.Prelude.{◌≡◌, ◌<◌, ◌↔◌, [], ◌∷◌, ◌++◌, length, IsTrue, IfOk, OnOk, OnErr, option_map, true, false};
+    ghost use Rattle.std.specs.Prelude.{◌≡◌, ◌<◌, ◌↔◌, [], ◌∷◌, ◌++◌, length, IsTrue, nat_le, All, IfOk, OnOk, OnErr, option_map, true, false};
     ghost use Rattle.mrs_arena.specs.Paths.{IsPlace};
     ghost use Rattle.mrs_arena.specs.Views.{flat_item};
-    ghost use Rattle.mrs_arena.specs.Nodes.{parents_of, last_items, new_node, with_item, is_taken};
+    ghost use Rattle.mrs_arena.specs.Nodes.{parents_of, last_items, new_node, with_item, with_condition, with_preferred, is_taken};
     ghost use Rattle.mrs_arena.specs.Limits.{is_node_refused, is_item_refused};
     ghost use Rattle.mrs_arena.specs.Formed.{AreNodes};
+    ghost use Rattle.spec_walk.specs.Limits.{expression_limit};
+    ghost use Rattle.mrs_arena.specs.Expressions.{expr_at, HasParts, with_expr, with_list, is_list_refused};
 
-    /// No nodes.
+    /// No nodes and no expressions.
     pub fn new(alloc: Global) -> ArenaBuilder
-        ensures { result ≡ [] }
+        ensures { result ≡ record { nodes = []; exprs = []; parts = [] } }
     {
         ArenaBuilder {
             nodes: Vec::new(alloc),
             items: Vec::new(alloc),
+            table: ExprTable::new(alloc),
             leaves: 0,
             aliases: 0,
         }
@@ -70,14 +79,14 @@ impl ArenaBuilder {
         name: NameId,
         parent: Option<NodeId>,
     ) -> Result<NodeId, BuildFault>
-        requires { IsPlace (parents_of self.old) (option_map (λ p. p.0) parent) }
-        ensures number { IfOk result (λ id. id.0 ≡ length self.old) }
-        ensures put { OnOk result (self.new ≡ self.old ++ new_node kind name.0 (option_map (λ p. p.0) parent) ∷ []) }
-        ensures room { OnOk result (is_node_refused self.old kind ≡ false) }
+        requires { IsPlace (parents_of self.old.nodes) (option_map (λ p. p.0) parent) }
+        ensures number { IfOk result (λ id. id.0 ≡ length self.old.nodes) }
+        ensures put { OnOk result (self.new ≡ record self.old { nodes = self.old.nodes ++ new_node kind name.0 (option_map (λ p. p.0) parent) ∷ [] }) }
+        ensures room { OnOk result (is_node_refused self.old.nodes kind ≡ false) }
 
-        ensures too_many { result ≡ Err BuildFault.TooMany → is_node_refused self.old kind ≡ true }
+        ensures too_many { result ≡ Err BuildFault.TooMany → is_node_refused self.old.nodes kind ≡ true }
         ensures unchanged { OnErr result (self.new ≡ self.old) }
-        ensures formed { AreNodes self.new }
+        ensures formed { AreNodes self.new.nodes }
     {
         let number = self.nodes.len();
         if number >= MOST_NODES || is_full(kind, self.leaves, self.aliases) {
@@ -87,6 +96,8 @@ impl ArenaBuilder {
             kind,
             name,
             parent,
+            condition: None,
+            preferred: None,
             from: self.items.len(),
             to: self.items.len(),
             named: named_above(&self.nodes, parent),
@@ -102,14 +113,14 @@ impl ArenaBuilder {
     ///
     /// `TooMany` where that node has 64 items, or the item is named and that node and those above it have 256 named items.
     pub fn item(&mut self, it: Item) -> Result<(), BuildFault>
-        requires some { 0 < length self.old }
-        requires free { is_taken (last_items self.old) (option_map (λ name. name.0) it.name) ≡ false }
-        ensures put { OnOk result (self.new ≡ with_item (flat_item it) self.old) }
-        ensures room { OnOk result (is_item_refused self.old (flat_item it) ≡ false) }
+        requires some { 0 < length self.old.nodes }
+        requires free { is_taken (last_items self.old.nodes) (option_map (λ name. name.0) it.name) ≡ false }
+        ensures put { OnOk result (self.new ≡ record self.old { nodes = with_item (flat_item it) self.old.nodes }) }
+        ensures room { OnOk result (is_item_refused self.old.nodes (flat_item it) ≡ false) }
 
-        ensures too_many { result ≡ Err BuildFault.TooMany → is_item_refused self.old (flat_item it) ≡ true }
+        ensures too_many { result ≡ Err BuildFault.TooMany → is_item_refused self.old.nodes (flat_item it) ≡ true }
         ensures unchanged { OnErr result (self.new ≡ self.old) }
-        ensures formed { AreNodes self.new }
+        ensures formed { AreNodes self.new.nodes }
     {
         let last = self.nodes.len() - 1;
         let node = self.nodes[last];
@@ -125,22 +136,85 @@ impl ArenaBuilder {
         Ok(())
     }
 
-    /// The nodes and items that were put, with the ends of the subtrees.
+    /// Puts an expression, whose parts were put before, and gives its number.
+    ///
+    /// `TooMany` where there are 4,194,304 expressions.
+    pub fn expr(&mut self, e: Expr) -> Result<ExprId, BuildFault>
+        requires { HasParts (length self.old.exprs) self.old.parts e }
+        ensures number { IfOk result (λ id. id.0 ≡ length self.old.exprs) }
+        ensures put { OnOk result (self.new ≡ record self.old { exprs = with_expr e self.old.parts self.old.exprs }) }
+        ensures room { OnOk result (nat_le expression_limit (length self.old.exprs) ≡ false) }
+
+        ensures too_many { result ≡ Err BuildFault.TooMany → nat_le expression_limit (length self.old.exprs) ≡ true }
+        ensures unchanged { OnErr result (self.new ≡ self.old) }
+    {
+        let id = self.table.push(e)?;
+        Ok(id)
+    }
+
+    /// Puts a list of expressions, which were put before.
+    ///
+    /// `TooMany` where all lists together would have more than 4,194,304 parts.
+    pub fn list(&mut self, parts: &[ExprId]) -> Result<ExprList, BuildFault>
+        requires { All (λ part. part.0 < length self.old.exprs) parts.now }
+        ensures list { IfOk result (λ list. (list.from ≡ length self.old.parts) × (list.len ≡ length parts.now)) }
+        ensures put { OnOk result (self.new ≡ record self.old { parts = with_list parts.now self.old.parts }) }
+        ensures room { OnOk result (is_list_refused self.old.parts (length parts.now) ≡ false) }
+
+        ensures too_many { result ≡ Err BuildFault.TooMany → is_list_refused self.old.parts (length parts.now) ≡ true }
+        ensures unchanged { OnErr result (self.new ≡ self.old) }
+    {
+        let list = self.table.push_list(parts)?;
+        Ok(list)
+    }
+
+    /// Sets the condition of the last node.
+    pub fn condition(&mut self, e: ExprId)
+        requires some { 0 < length self.old.nodes }
+        requires put { e.0 < length self.old.exprs }
+        ensures set { self.new ≡ record self.old { nodes = with_condition (expr_at self.old.exprs e.0) self.old.nodes } }
+        ensures formed { AreNodes self.new.nodes }
+    {
+        let last = self.nodes.len() - 1;
+        let node = self.nodes[last];
+        self.nodes[last] = StoredNode {
+            condition: Some(e),
+            ..node
+        };
+    }
+
+    /// Sets the preference of the last node.
+    pub fn preferred(&mut self, e: ExprId)
+        requires some { 0 < length self.old.nodes }
+        requires put { e.0 < length self.old.exprs }
+        ensures set { self.new ≡ record self.old { nodes = with_preferred (expr_at self.old.exprs e.0) self.old.nodes } }
+        ensures formed { AreNodes self.new.nodes }
+    {
+        let last = self.nodes.len() - 1;
+        let node = self.nodes[last];
+        self.nodes[last] = StoredNode {
+            preferred: Some(e),
+            ..node
+        };
+    }
+
+    /// What was put, with the ends of the subtrees.
     pub fn close(self) -> Arena
-        ensures { result ≡ self }
+        ensures { result ≡ record { nodes = self.nodes; exprs = self.exprs } }
     {
         let ArenaBuilder {
             mut nodes,
             items,
+            table,
             ..
         } = self;
         fill_ends(&mut nodes);
-        Arena::from_parts(nodes, items)
+        Arena::from_parts(nodes, items, table)
     }
 
     /// Whether a node may be put below that one, or without a parent where there is none.
     pub fn is_place(&self, parent: Option<NodeId>) -> bool
-        ensures { IsTrue result ↔ IsPlace (parents_of self.now) (option_map (λ p. p.0) parent) }
+        ensures { IsTrue result ↔ IsPlace (parents_of self.now.nodes) (option_map (λ p. p.0) parent) }
     {
         match parent {
             Some(parent) => is_on_last_path(&self.nodes, parent),
@@ -150,7 +224,7 @@ impl ArenaBuilder {
 
     /// Whether an item of the last node has that name.
     pub fn is_taken(&self, name: NameId) -> bool
-        ensures { result ≡ is_taken (last_items self.now) (Some name.0) }
+        ensures { result ≡ is_taken (last_items self.now.nodes) (Some name.0) }
     {
         match self.nodes.last() {
             Some(node) => is_name_of_one(&self.items[node.from..node.to], name),

@@ -10,6 +10,9 @@ use crate::node::StoredNode;
 /// How many nodes there are at most.
 pub(crate) const MOST_NODES: usize = 1_048_576;
 
+/// How many expressions there are at most, and how many parts all lists of them have together.
+pub(crate) const MOST_EXPRESSIONS: usize = 4_194_304;
+
 /// How many leaves, and how many aliases.
 const MOST_LEAVES: u32 = 65_536;
 

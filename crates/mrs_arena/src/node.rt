@@ -1,5 +1,6 @@
 //! Nodes as an arena keeps them.
 
+use crate::expr_id::ExprId;
 use crate::kind::Kind;
 use crate::node_id::NodeId;
 use mrs_names::NameId;
@@ -10,6 +11,8 @@ pub(crate) struct StoredNode {
     pub kind: Kind,
     pub name: NameId,
     pub parent: Option<NodeId>,
+    pub condition: Option<ExprId>,
+    pub preferred: Option<ExprId>,
     pub from: usize,
     pub to: usize,
     /// How many named items the node and those above it have.

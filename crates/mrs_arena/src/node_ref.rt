@@ -1,5 +1,6 @@
 //! One node of an arena.
 
+use crate::expr_id::ExprId;
 use crate::item::Item;
 use crate::kind::Kind;
 use crate::node::StoredNode;
@@ -36,28 +37,42 @@ impl<'a> NodeRef<'a> {
 
     /// What the node is.
     pub fn kind(&self) -> Kind
-        ensures { result ≡ self.now.own.kind }
+        ensures { result ≡ self.now.kind }
     {
         self.node.kind
     }
 
     /// The number of the node's name.
     pub fn name(&self) -> NameId
-        ensures { result.0 ≡ self.now.own.name }
+        ensures { result.0 ≡ self.now.name }
     {
         self.node.name
     }
 
     /// The items in the order in which they were put.
     pub fn items(&self) -> &'a [Item]
-        ensures { map flat_item result.now ≡ self.now.own.items }
+        ensures { map flat_item result.now ≡ self.now.items }
     {
         self.items
     }
 
+    /// The number of the condition, if it has one.
+    pub fn condition(&self) -> Option<ExprId>
+        ensures { option_map (λ e. e.0) result ≡ self.now.condition }
+    {
+        self.node.condition
+    }
+
+    /// The number of the preference, if it has one.
+    pub fn preferred(&self) -> Option<ExprId>
+        ensures { option_map (λ e. e.0) result ≡ self.now.preferred }
+    {
+        self.node.preferred
+    }
+
     /// The node above, which the root has not.
     pub fn parent(&self) -> Option<NodeId>
-        ensures { option_map (λ p. p.0) result ≡ self.now.own.parent }
+        ensures { option_map (λ p. p.0) result ≡ self.now.parent }
     {
         self.node.parent
     }

@@ -2,6 +2,7 @@
 
 use crate::arena::Arena;
 use crate::builder::ArenaBuilder;
+use crate::expr_ref::ExprRef;
 use crate::node_ref::NodeRef;
 use crate::path::Path;
 
@@ -21,4 +22,8 @@ fn nodes_are_shared<'a>() {
 
 fn paths_are_shared<'a>() {
     shared::<Path<'a>>();
+}
+
+fn expressions_are_shared<'a>() {
+    shared::<ExprRef<'a>>();
 }

@@ -34,7 +34,7 @@ impl Opened {
     ghost use Rattle.bit_pattern.specs.Views.{digits_of};
     ghost use Rattle.spec_instructions.specs.Paths.{label, labelled_leaf};
     ghost use Rattle.spec_instructions.specs.Fields.{merged};
-    ghost use Rattle.spec_decode.specs.Found.{path_holds};
+    ghost use Rattle.spec_decode.specs.Verdict.{path_holds};
     ghost use Rattle.insn_tree.specs.Trees.{IsOf, tree_paths, label_text};
 
     /// A tree and the names that it was made with.

@@ -1,3 +1,4 @@
 pub mod FoundLaws
 pub mod VerdictLaws
+pub mod ConditionLaws
 mod Worked

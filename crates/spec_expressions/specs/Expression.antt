@@ -1,5 +1,5 @@
 -- Expressions, of which conditions, preferences and constraints are made, as nested trees.
-use Rattle.std.specs.Prelude.{ℕ, ℤ, List, [], ◌∷◌, Bool, Option, codes, bytes_eq, find, unwrap_or}
+use Rattle.std.specs.Prelude.{ℕ, ℤ, List, [], ◌∷◌, Bool, Option, codes, bytes_eq, find, unwrap_or, ⊤}
 use Rattle.spec_bits.specs.Pattern.{Digit}
 
 -- ---- operators of two sides
@@ -92,3 +92,57 @@ Exprs = ExprsOf (List ℕ)
 abbrev pub exprs_of : {N : Type 0} → List (ExprOf N) → ExprsOf N
 exprs_of [] = no_exprs
 exprs_of (e ∷ es) = expr e (exprs_of es)
+
+-- ---- names
+
+abbrev pub function_with_names : {M N : Type 0} → (M → N) → FunctionOf M → FunctionOf N
+function_with_names f UInt = UInt
+function_with_names f IsZero = IsZero
+function_with_names f IsOnes = IsOnes
+function_with_names f IsFeatureImplemented = IsFeatureImplemented
+function_with_names f (Named name) = Named (f name)
+
+abbrev mutual
+  -- an expression with something else made of each name
+  pub with_names : {M N : Type 0} → (M → N) → ExprOf M → ExprOf N
+  with_names f (Boolean b) = Boolean b
+  with_names f (Integer n) = Integer n
+  with_names f (Bits ds) = Bits ds
+  with_names f (Name name) = Name (f name)
+  with_names f (Not a) = Not (with_names f a)
+  with_names f (Binary op a b) = Binary op (with_names f a) (with_names f b)
+  with_names f (Call function args) = Call (function_with_names f function) (all_with_names f args)
+  with_names f (Set members) = Set (all_with_names f members)
+  with_names f (Join parts) = Join (all_with_names f parts)
+  with_names f (Slice bits high low) = Slice (with_names f bits) (with_names f high) (with_names f low)
+  with_names f Other = Other
+
+  pub all_with_names : {M N : Type 0} → (M → N) → ExprsOf M → ExprsOf N
+  all_with_names f no_exprs = no_exprs
+  all_with_names f (expr e es) = expr (with_names f e) (all_with_names f es)
+
+-- each name in an expression is as it has to be
+abbrev pub FunctionHasNames : {N : Type 0} → (N → Type 0) → FunctionOf N → Type 0
+FunctionHasNames P UInt = ⊤
+FunctionHasNames P IsZero = ⊤
+FunctionHasNames P IsOnes = ⊤
+FunctionHasNames P IsFeatureImplemented = ⊤
+FunctionHasNames P (Named name) = P name
+
+abbrev mutual
+  pub EachName : {N : Type 0} → (N → Type 0) → ExprOf N → Type 0
+  EachName P (Boolean b) = ⊤
+  EachName P (Integer n) = ⊤
+  EachName P (Bits ds) = ⊤
+  EachName P (Name name) = P name
+  EachName P (Not a) = EachName P a
+  EachName P (Binary op a b) = EachName P a × EachName P b
+  EachName P (Call function args) = FunctionHasNames P function × EachNameOfAll P args
+  EachName P (Set members) = EachNameOfAll P members
+  EachName P (Join parts) = EachNameOfAll P parts
+  EachName P (Slice bits high low) = EachName P bits × (EachName P high × EachName P low)
+  EachName P Other = ⊤
+
+  pub EachNameOfAll : {N : Type 0} → (N → Type 0) → ExprsOf N → Type 0
+  EachNameOfAll P no_exprs = ⊤
+  EachNameOfAll P (expr e es) = EachName P e × EachNameOfAll P es

@@ -1,4 +1,5 @@
 pub mod Expression
+pub mod Codes
 pub mod Kind
 pub mod Shape
 pub mod Reading

@@ -3,6 +3,7 @@ pub mod Limits
 pub mod Kind
 pub mod Encodeset
 pub mod Tree
+pub mod Codes
 pub mod Walk
 pub mod Paths
 pub mod Fields

@@ -9,8 +9,8 @@ from_parts-requires c =
     let nodes = c.self.inside.nodes.items in
     let ended = c.fill_ends.new.nodes in
     let same = c.fill_ends.ensures.same ∙ ap (map without_end) c.deref_mut.ensures.value in
-    subst (λ (ns : List StoredNode). AreClosed ns c.self.inside.items.items) (sym (ended-whole nodes ended c.self.inside.nodes.len same (sym c.self.inside.nodes.ok.0)))
-    (AreClosed-from nodes ended c.self.inside.items.items c.self.inside.leaves c.self.inside.aliases c.self.invariant same c.fill_ends.ensures.ends)
+    subst (λ (ns : List StoredNode). AreClosed c.self.inside.table.exprs ns c.self.inside.items.items) (sym (ended-whole nodes ended c.self.inside.nodes.len same (sym c.self.inside.nodes.ok.0)))
+    (AreClosed-from c.self.inside.table.exprs nodes ended c.self.inside.items.items c.self.inside.leaves c.self.inside.aliases c.self.invariant same c.fill_ends.ensures.ends)
 
 pub returns : goal.returns
 returns c =
@@ -18,4 +18,7 @@ returns c =
     let ended = c.fill_ends.new.nodes in
     let items = c.self.inside.items.items in
     let same = c.fill_ends.ensures.same ∙ ap (map without_end) c.deref_mut.ensures.value in
-    c.from_parts.ensures ∙ ap (flat_nodes items) (ended-whole nodes ended c.self.inside.nodes.len same (sym c.self.inside.nodes.ok.0)) ∙ flat_nodes-ended items nodes ended same ∙ c.self.view_is
+    let exprs = c.self.inside.table.exprs in
+    c.from_parts.ensures
+    ∙ ap (λ flat. record { nodes = flat; exprs = exprs }) (ap (flat_nodes exprs items) (ended-whole nodes ended c.self.inside.nodes.len same (sym c.self.inside.nodes.ok.0)) ∙ flat_nodes-ended exprs items nodes ended same)
+    ∙ ap (λ b. record { nodes = b.nodes; exprs = b.exprs }) c.self.view_is

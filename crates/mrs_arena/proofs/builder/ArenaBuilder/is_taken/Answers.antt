@@ -13,4 +13,4 @@ returns-in-Some c =
     let last = subst (λ (ns : List StoredNode). IsLast ns node) c.deref.ensures.value (IsLast-get c.deref.result.now node c.in-Some.ensures.value) in
     let items = ap (λ its. map flat_item (slice_range its node.from node.to)) c.deref-in-Some.ensures.value in
     c.is_name_of_one.ensures
-    ∙ ap (λ its. list_any (has_name_id c.args.name.0) its) (items ∙ sym (last_items-last c.self.inside.nodes.items node c.self.inside.items.items last) ∙ ap last_items c.self.view_is)
+    ∙ ap (λ its. list_any (has_name_id c.args.name.0) its) (items ∙ sym (last_items-last c.self.inside.table.exprs c.self.inside.nodes.items node c.self.inside.items.items last) ∙ ap (λ b. last_items b.nodes) c.self.view_is)

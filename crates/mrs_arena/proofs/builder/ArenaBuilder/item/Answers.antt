@@ -1,6 +1,8 @@
 use Rattle.std.proofs.Common.{◌≡◌, ◌∙◌, sym, ap, subst, ◌+◌, ◌<◌, ◌-◌, ◌||◌, ◌&&◌, nat_le, List, length, false, is_some, slice_set, arith}
 use Rattle.std.proofs.lemmas.List.{length-map}
 use Rattle.spec_instructions.specs.Limits.{item_limit, named_limit}
+use Rattle.mrs_arena.specs.Flat.{FlatNode, Built}
+use Rattle.mrs_arena.specs.Expressions.{Expressions}
 use Rattle.mrs_arena.specs.Views.{flat_item}
 use Rattle.mrs_arena.specs.Nodes.{last_items, with_item, is_taken}
 use Rattle.mrs_arena.specs.Limits.{is_item_refused}
@@ -16,7 +18,7 @@ place c = omega (arith, c.len-last.ensures, c.self.inside.nodes.ok.0)
 -- the node that is read is the last one
 last : (c : goal.After-self-1) → IsLast c.self.inside.nodes.items c.index.result.now
 last c =
-    let some : 0 < length c.self.inside.nodes.items = omega (arith, c.requires.some, ap length c.self.view_is, length-map c.self.inside.nodes.items (flat_node c.self.inside.items.items)) in
+    let some : 0 < length c.self.inside.nodes.items = omega (arith, c.requires.some, ap (λ b. length b.nodes) c.self.view_is, length-map c.self.inside.nodes.items (flat_node c.self.inside.table.exprs c.self.inside.items.items)) in
     IsLast-at c.self.inside.nodes.items (c.len-last.result - 1) c.index.result.now (place c) some c.index.ensures
 
 -- and has room
@@ -31,23 +33,33 @@ invariant_of-self-2 c =
     let items = c.self.inside.items.items in
     let node = c.index.result.now in
     let more = counted node.named c.from.result c.is_some-2.result (is_some c.args.it.name) c.from.ensures c.is_some-2.ensures in
-    let free = ap (λ flat. is_taken (last_items flat) (flat_item c.args.it).name) c.self.view_is ∙ c.requires.free in
-    subst (λ (its : List Item). AreOpen (slice_set nodes (c.len-last.result - 1) (longer node (node.named + c.from.result))) its c.self.inside.leaves c.self.inside.aliases) (sym c.in_ok-push.ensures.items)
-    (AreOpen-item_last nodes node items c.self.inside.leaves c.self.inside.aliases c.args.it (c.len-last.result - 1) (node.named + c.from.result) c.self.invariant (last c) (place c) free (room c) more)
+    let free = ap (λ b. is_taken (last_items b.nodes) (flat_item c.args.it).name) c.self.view_is ∙ c.requires.free in
+    subst (λ (its : List Item). AreOpen c.self.inside.table.exprs (slice_set nodes (c.len-last.result - 1) (longer node (node.named + c.from.result))) its c.self.inside.leaves c.self.inside.aliases) (sym c.in_ok-push.ensures.items)
+    (AreOpen-item_last c.self.inside.table.exprs nodes node items c.self.inside.leaves c.self.inside.aliases c.args.it (c.len-last.result - 1) (node.named + c.from.result) c.self.invariant (last c) (place c) free (room c) more)
+
+-- what was taken, with one more item
+abbrev grown : Item → Built → Built
+grown it b = record b { nodes = with_item (flat_item it) b.nodes }
+
+abbrev built : Expressions → List FlatNode → Built
+built put nodes = record { nodes = nodes; exprs = put.exprs; parts = put.parts }
 
 pub returns-clause-put : goal.returns-clause-put
 returns-clause-put c =
     let nodes = c.self.inside.nodes.items in
     let items = c.self.inside.items.items in
     let node = c.index.result.now in
-    ap (λ its. flat_nodes its (slice_set nodes (c.len-last.result - 1) (longer node (node.named + c.from.result)))) c.in_ok-push.ensures.items
-    ∙ flat_nodes-item_last nodes node items c.self.inside.leaves c.self.inside.aliases c.args.it (c.len-last.result - 1) (node.named + c.from.result) c.self.invariant (last c) (place c)
-    ∙ ap (with_item (flat_item c.args.it)) c.self.view_is
+    let table = c.self.inside.table in
+    let written = slice_set nodes (c.len-last.result - 1) (longer node (node.named + c.from.result)) in
+    ap (built table)
+    (ap (λ its. flat_nodes table.exprs its written) c.in_ok-push.ensures.items
+    ∙ flat_nodes-item_last table.exprs nodes node items c.self.inside.leaves c.self.inside.aliases c.args.it (c.len-last.result - 1) (node.named + c.from.result) c.self.invariant (last c) (place c))
+    ∙ ap (grown c.args.it) c.self.view_is
 
 pub returns-clause-room : goal.returns-clause-room
 returns-clause-room c =
-    ap (λ flat. is_item_refused flat (flat_item c.args.it)) (sym c.self.view_is)
-    ∙ is_item_refused-last c.self.inside.nodes.items c.index.result.now c.self.inside.items.items c.self.inside.leaves c.self.inside.aliases c.args.it c.self.invariant (last c) ∙ room c
+    ap (λ b. is_item_refused b.nodes (flat_item c.args.it)) (sym c.self.view_is)
+    ∙ is_item_refused-last c.self.inside.table.exprs c.self.inside.nodes.items c.index.result.now c.self.inside.items.items c.self.inside.leaves c.self.inside.aliases c.args.it c.self.invariant (last c) ∙ room c
 
 pub returns-clause-formed : goal.returns-clause-formed
 returns-clause-formed c = (invariant_of-self-2 c).formed

@@ -1,0 +1,42 @@
+use Rattle.std.proofs.Common.{◌≡◌, ◌∙◌, ap, refl, ℕ, List, ◌<◌, ◌-◌, length, Some, arith}
+use Rattle.std.proofs.lemmas.List.{length-map}
+use Rattle.mrs_arena.specs.Flat.{FlatNode, Built}
+use Rattle.mrs_arena.specs.Expressions.{Expressions, expr_at}
+use Rattle.mrs_arena.specs.Nodes.{with_preferred}
+use Rattle.mrs_arena.specs.Inside.{flat_node}
+use Rattle.mrs_arena.proofs.LastLaws.{IsLast, IsLast-at, AreOpen-saying_last, flat_nodes-saying_last, said_last}
+use Rattle.mrs_arena.proofs.builder.ArenaBuilder.preferred.Goals as goal
+
+place : (c : goal.After-self-1) → c.len-last.result - 1 ≡ length c.self.inside.nodes.items - 1
+place c = omega (arith, c.len-last.ensures, c.self.inside.nodes.ok.0)
+
+-- the node that is read is the last one
+last : (c : goal.After-self-1) → IsLast c.self.inside.nodes.items c.index-node.result.now
+last c =
+    let some : 0 < length c.self.inside.nodes.items = omega (arith, c.requires.some, ap (λ b. length b.nodes) c.self.view_is, length-map c.self.inside.nodes.items (flat_node c.self.inside.table.exprs c.self.inside.items.items)) in
+    IsLast-at c.self.inside.nodes.items (c.len-last.result - 1) c.index-node.result.now (place c) some c.index-node.ensures
+
+pub invariant_of-self : goal.invariant_of-self
+invariant_of-self c =
+    let exprs = c.self.inside.table.exprs in
+    let said = said_last exprs c.self.inside.nodes.items c.index-node.result.now c.self.inside.items.items c.self.inside.leaves c.self.inside.aliases c.self.invariant (last c) in
+    AreOpen-saying_last exprs c.self.inside.nodes.items c.index-node.result.now c.self.inside.items.items c.self.inside.leaves c.self.inside.aliases c.index-node.result.now.condition (Some c.args.e) (c.len-last.result - 1) c.self.invariant (last c) (place c)
+    said.0 (omega (arith, c.requires.put, ap (λ b. length b.exprs) c.self.view_is))
+
+abbrev built : Expressions → List FlatNode → Built
+built put nodes = record { nodes = nodes; exprs = put.exprs; parts = put.parts }
+
+-- what was taken, with the preference of that number
+abbrev saying_so : ℕ → Built → Built
+saying_so e b = record b { nodes = with_preferred (expr_at b.exprs e) b.nodes }
+
+pub returns-clause-set : goal.returns-clause-set
+returns-clause-set c =
+    let table = c.self.inside.table in
+    ap (built table)
+    (flat_nodes-saying_last table.exprs c.self.inside.nodes.items c.index-node.result.now c.self.inside.items.items c.index-node.result.now.condition (Some c.args.e) (c.len-last.result - 1) (λ node. record node { preferred = Some (expr_at table.exprs c.args.e.0) })
+    (last c) (place c) refl)
+    ∙ ap (saying_so c.args.e.0) c.self.view_is
+
+pub returns-clause-formed : goal.returns-clause-formed
+returns-clause-formed c = (invariant_of-self c).formed
