@@ -1,2 +1,3 @@
 pub mod BitsLaws
+pub mod ChoiceLaws
 pub mod SliceLaws

@@ -1,2 +1,4 @@
 pub mod BitNumber
+pub mod Choices
+pub mod ConfigView
 pub mod Views

@@ -3,8 +3,12 @@
 
 mod bits;
 mod comparison;
+mod config;
 mod kleene;
+mod memory;
 mod val;
 
+pub use config::Config;
 pub use kleene::Truth;
+pub use memory::NoMemory;
 pub use val::Val;
