@@ -1,5 +1,5 @@
 -- Laws of bits compared and taken as numbers, by patterns.
-use Rattle.std.proofs.Common.{◌≡◌, ◌≢◌, ◌∙◌, refl, sym, ap, ap₂, ℕ, ◌-◌, ◌<◌, ◌≤◌, ◌^◌, ◌==◌, Bool, true, false, ◌&&◌, nat_le, List, [], ◌∷◌, length, Option, Some, None, option_map, unwrap_or, arith}
+use Rattle.std.proofs.Common.{append-nil, ◌≡◌, ◌≢◌, ◌∙◌, refl, sym, ap, ap₂, ℕ, ◌-◌, ◌<◌, ◌≤◌, ◌^◌, ◌==◌, Bool, true, false, ◌&&◌, nat_le, List, [], ◌∷◌, length, Option, Some, None, option_map, unwrap_or, arith}
 use Rattle.std.specs.List.{list_all}
 use Rattle.std.proofs.lemmas.Bool.Decides.{nat_tests}
 use Rattle.std.proofs.lemmas.Nat.Bits.{bit_at-zero, bit_at_ones}
@@ -7,10 +7,12 @@ use Rattle.spec_bits.specs.Pattern.{Digit, digit_holds, pattern_holds}
 use Rattle.spec_bits.specs.Number.{number_of}
 use Rattle.spec_expressions.specs.Truth.{Truth, Open}
 use Rattle.spec_expressions.specs.Digits.{hold_of, equal_digits}
-use Rattle.spec_expressions.specs.Operations.{ATruth, APattern, number_or_open, unsigned}
+use Rattle.spec_expressions.specs.Operations.{ATruth, APattern, number_or_open, bits_or_open, unsigned}
 use Rattle.bit_pattern.specs.declared.pattern.Pattern.{Pattern}
 use Rattle.bit_pattern.specs.Views.{digits_of}
 use Rattle.bit_pattern.proofs.DigitLaws.{length-digits_below}
+use Rattle.ast_eval.specs.declared.row.Row.TheVariants.{Bits}
+use Rattle.ast_eval.specs.Rows.{limited, joined_with}
 use Rattle.ast_eval.specs.Views.{known}
 
 width : (p : Pattern) → length (digits_of p) ≡ p.width
@@ -27,6 +29,14 @@ pub unsigned-narrow : (p : Pattern) → p.width ≤ 64 → (o : Option ℕ) → 
 unsigned-narrow p narrow o is =
     let few : nat_le (length (digits_of p)) 64 ≡ true = let w = width p in grind (arith, nat_tests) in
     rw (few, ← is) refl
+
+-- ---- bits joined
+
+-- a pattern by itself has few enough digits
+pub joined-alone : (p : Pattern) → APattern (digits_of p) ≡ joined_with (Bits p) []
+joined-alone p =
+    let few : nat_le (length (digits_of p)) 128 ≡ true = let w = width p in let fits = p.fits in grind (arith, nat_tests) in
+    sym (ap (λ ds. bits_or_open (limited (Some ds))) (append-nil (digits_of p)) ∙ rw few refl)
 
 -- ---- all zeros, all ones
 

@@ -1,5 +1,5 @@
 -- What this crate's types stand for.
-use Rattle.std.specs.Prelude.{Bool}
+use Rattle.std.specs.Prelude.{Bool, Option, Some, None}
 use Rattle.bit_pattern.specs.Views.{digits_of}
 use Rattle.spec_expressions.specs.Truth as truth
 use Rattle.spec_expressions.specs.Operations.{Value, ATruth, ANumber, APattern}
@@ -17,6 +17,11 @@ truth_of Open = truth.Open
 -- the truth of what is known
 abbrev pub known : Bool → truth.Truth
 known holds = truth.truth_of holds
+
+-- the truth of a state
+abbrev pub state_truth : Option Bool → truth.Truth
+state_truth (Some on) = truth.truth_of on
+state_truth None = truth.Open
 
 -- a value as the operations have it
 abbrev pub value_of : Val → Value
