@@ -6,7 +6,7 @@ use Rattle.serde_json.proofs.OnLiterals.{serde_json_on_literals}
 use Rattle.spec_walk.specs.Event.{Missing, UnlistedKind}
 use Rattle.spec_decode.specs.Machine.{Machine}
 use Rattle.spec_command.specs.Commands.{AskList, AskLeaf}
-use Rattle.spec_run.specs.End.{Done, Ragged, Usage, Document, Question, NoLeaf, ReadFault, WriteFault, Limit, Insns, Input, Json, Schema, message}
+use Rattle.spec_run.specs.End.{Done, Ragged, Usage, Document, Question, NoLeaf, ReadFault, WriteFault, Limit, Insns, Log, Input, Json, Schema, Syntax, message}
 use Rattle.spec_run.specs.Opening.{OpeningError, Refused, of_value}
 use Rattle.spec_run.specs.Work.{Outcome}
 use Rattle.spec_run.specs.Outcome.{outcome, after_opening}
@@ -94,3 +94,29 @@ no_such_leaf = refl
 second_leaf : of_label (codes "DUP#1") ≡ record { end = Done; out = codes "leaf DUP#1\npath A64 DUP\nbits xxxxxxxxxxxxxxxxxxxxxxxxxxxxxxxx\n" }
 unfolding digits serde_json_on_literals
 second_leaf = refl
+
+-- ---- `proof`
+
+-- a log of six clauses and this last line
+abbrev proof_of : List ℕ → Outcome
+proof_of last = outcome (codes "proof" ∷ codes "log=g" ∷ []) ((codes "g", codes "p 3 6 1\nc 3 1\nc 3 -2\nc -3 -1 2\nc 3\nc 1\nc -2\n" ++ last) ∷ []) []
+
+refuted : proof_of (codes "s : 4 5 3 6\n") ≡ record { end = Done; out = codes "refuted 1\n" }
+unfolding digits
+refuted = refl
+
+literals_left : proof_of (codes "s : 4 3 6\n") ≡ record { end = Done; out = codes "fails 0\n" }
+unfolding digits
+literals_left = refl
+
+not_falsified : proof_of (codes "s : 4 5\n") ≡ record { end = Done; out = codes "fails 0\n" }
+unfolding digits
+not_falsified = refl
+
+past_the_variables : proof_of (codes "s 4 :\n") ≡ record { end = Document Log (Syntax 44); out = [] }
+unfolding digits
+past_the_variables = refl
+
+syntax_text : message (Document Log (Syntax 44)) ≡ codes "document log syntax 44\n"
+unfolding digits
+syntax_text = refl

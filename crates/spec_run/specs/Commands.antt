@@ -20,7 +20,7 @@ Needs (AskProof log) = Checked
 
 -- what the documents make of it, or why it is not opened
 abbrev pub opened : (asked : Request) → List Named → Result (Needs asked) OpeningError
-opened (AskList release on) docs = machine_opened release [] docs
+opened (AskList release on) docs = machine_opened release on docs
 opened (AskLeaf release label) docs = machine_opened release [] docs
 opened (AskProof log) docs = log_opened log docs
 

@@ -15,6 +15,10 @@ distinct_behind before (s ∷ texts) = distinct_behind (with_text before s) text
 abbrev pub distinct : List (List ℕ) → List (List ℕ)
 distinct texts = distinct_behind [] texts
 
--- each feature that is named is a parameter, once, in the order in which they come first, and is on; there is no other
+-- each of these names is that of a parameter, which is on; there is no other
+abbrev pub named_on : List (List ℕ) → Configuration
+named_on names = record { parameters = map (λ s. record { name = s; state = Flag true }) names; atoms = [] }
+
+-- so it is with the features that are named, each once
 abbrev pub all_on : List (List ℕ) → Configuration
-all_on names = record { parameters = map (λ s. record { name = s; state = Flag true }) (distinct names); atoms = [] }
+all_on names = named_on (distinct names)

@@ -1,0 +1,7 @@
+mod Worked
+mod WorkedWalk
+pub mod Encoding
+pub mod Assignments
+pub mod Uses
+pub mod Exact
+pub mod Firsts

@@ -1,0 +1,17 @@
+//! What features are, which configurations of them fit, which one is first, and the clauses that say so. Definitions in
+//! `specs/`, and laws about them.
+#![tactic(auto)]
+
+ghost use Rattle.spec_features.specs.Laws.{EachExtends, FirstsAreFirst};
+
+/// A law on clauses: states of parameters and atoms extend to the auxiliaries in exactly one way so that the clauses of the
+/// connectives hold. With that extension all clauses hold exactly where the configuration fits.
+pub fn each_configuration_extends()
+    ensures { EachExtends }
+{}
+
+/// A law on clauses: their first solution begins with the first configuration that fits, and the first configuration that
+/// fits, extended, is their first solution.
+pub fn firsts_are_first()
+    ensures { FirstsAreFirst }
+{}
