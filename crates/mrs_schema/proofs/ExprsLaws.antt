@@ -100,11 +100,6 @@ pub counted_returns : {T : Type 0} (r : Result T ReadFault) (number_of : T → �
     → Puts r (one_more AnExpression here) (counts mid) (counts new) (λ _ id. Pushed mid new made (number_of id)) → Puts r (counted here x) (counts mid) (counts new) (λ y id. IsRead old new y (number_of id))
 counted_returns r number_of here old mid new made x g is same h = Puts-last r (one_more AnExpression here) (λ _. x) (counts mid) (counts new) _ _ (λ a id p. pushed_read old mid new made x (number_of id) g is same p) h
 
--- one without parts
-pub plain_returns : {T : Type 0} (r : Result T ReadFault) (number_of : T → ℕ) (here : Spot) (old new : Drafted) (made x : Expr) → made ≡ x → an_object here ≡ Done tt → Plain x ≡ shape_of here.value → new.parts ≡ old.parts
-    → Puts r (one_more AnExpression here) (counts old) (counts new) (λ _ id. Pushed old new made (number_of id)) → Puts r (expression here) (counts old) (counts new) (λ y id. IsRead old new y (number_of id))
-plain_returns r number_of here old new made x is is_one shape same h = formed_returns r here (Plain x) _ _ _ is_one shape (counted_returns r number_of here old old new made x (Grows-none old) is same h)
-
 -- what a walk gives with the counts behind it
 given : {A : Type 0} (x y : A) (c d : Counts) (r : Result (A × Counts) Fault) → r ≡ Ok (x, c) → r ≡ Ok (y, d) → (x ≡ y) × (c ≡ d)
 given {A} x y c d r one two = let same : ◌≡◌ {A = A × Counts} (x, c) (y, d) = cc in (ap (λ p. p.0) same, ap (λ p. p.1) same)
@@ -116,13 +111,6 @@ named_value here text name c d h = go (after (Name here.at text) c) h
     go : (r : Result Counts Fault) → (r >>= gives (Done text)) ≡ Ok (name, d) → name ≡ text
     go (Ok b) h = sym (given text name b d (Ok (text, b)) refl h).0
     go (Err f) h = absurd cc
-
--- a name
-pub name_returns : {T : Type 0} (r : Result T ReadFault) (number_of : T → ℕ) (here : Spot) (text : List ℕ) (old mid new : Drafted) (made : Expr) (name : List ℕ) → gives (named here text) (counts old) ≡ Ok (name, counts mid) → mid.exprs ≡ old.exprs → mid.parts ≡ old.parts → made ≡ e.Name text → new.parts ≡ mid.parts
-    → Puts r (one_more AnExpression here) (counts mid) (counts new) (λ _ id. Pushed mid new made (number_of id)) → Puts r (formed_at (AName text) here) (counts old) (counts new) (λ y id. IsRead old new y (number_of id))
-name_returns r number_of here text old mid new made name walked exprs parts is same h =
-    Puts-then r (named here text) (λ _. counted here (e.Name text)) name (counts old) (counts mid) (counts new) _ walked
-    (counted_returns r number_of here old mid new made (e.Name text) (Grows-named (Grows-none old) exprs parts) is same h)
 
 -- ---- parts
 
@@ -143,12 +131,6 @@ binary_returns r number_of here op old one two new j k p q same h =
     (Puts-then r (part (codes "right") here) (λ x. counted here (e.Binary op p.value x)) q.value (counts one) (counts two) (counts new) _ q.walked
     (counted_returns r number_of here old two new (e.Binary op (expr_at two.exprs j) (expr_at two.exprs k)) (e.Binary op p.value q.value) (Grows-weaker 0 (omega arith) (Grows-trans p.stands.grows q.stands.grows))
     (ap (λ x. e.Binary op x (expr_at two.exprs k)) left.1 ∙ ap (e.Binary op p.value) q.stands.stands) same h))
-
--- the second part fails
-pub binary_fails : (f : ReadFault) (here : Spot) (op : Op) (old one : Drafted) (j : ℕ) → PartRead (codes "left") here old one j → Fails f (gives (part (codes "right") here) (counts one)) → Fails f (gives (formed_at (ABinary op) here) (counts old))
-binary_fails f here op old one j p h =
-    Fails-same f _ _ (gives-next (part (codes "left") here) (λ l. part (codes "right") here >>> λ x. counted here (e.Binary op l x)) (counts old) (counts one) p.value p.walked)
-    (Fails-then f (part (codes "right") here) (λ x. counted here (e.Binary op p.value x)) (counts one) h)
 
 -- ---- lists
 
@@ -176,11 +158,6 @@ call_returns r number_of here name old one two new list f g p walked is exprs sa
     (Puts-then r (function_at here (function_named name)) (λ f. counted here (e.Call f (exprs_of p.value))) f (counts one) (counts two) (counts new) _ walked
     (counted_returns r number_of here old two new _ (e.Call f (exprs_of p.value)) (Grows-named p.stands.grows exprs same_parts)
     (ap (λ g. e.Call g (list_in (expr_at two.exprs) two.parts list)) is ∙ ap (λ xs. e.Call f (list_in (expr_at xs) two.parts list)) exprs ∙ ap (λ ps. e.Call f (list_in (expr_at one.exprs) ps list)) same_parts ∙ ap (e.Call f) p.stands.stands) same h))
-
-pub call_fails : (f : ReadFault) (here : Spot) (name : List ℕ) (old one : Drafted) (list : ExprList) → ListRead (codes "arguments") here old one list → Fails f (gives (function_at here (function_named name)) (counts one)) → Fails f (gives (formed_at (ACall name) here) (counts old))
-call_fails f here name old one list p h =
-    Fails-same f _ _ (gives-next (parts (codes "arguments") here) (λ es. function_at here (function_named name) >>> λ f. counted here (e.Call f (exprs_of es))) (counts old) (counts one) p.value p.walked)
-    (Fails-then f (function_at here (function_named name)) (λ f. counted here (e.Call f (exprs_of p.value))) (counts one) h)
 
 -- ---- the argument of a square operator
 
@@ -292,9 +269,6 @@ maps-more xs more (k ∷ ks) within =
     ap (λ x. x ∷ map (expr_at (xs ++ more)) ks) (at-more xs more k (All-head (λ k. k < length xs) k ks within))
     ∙ ap (λ rest. expr_at xs k ∷ rest) (maps-more xs more ks (All-tail (λ k. k < length xs) k ks within))
 
-AreRead-none : (d : Drafted) → AreRead d d [] []
-AreRead-none d = record { grows = Grows-none d; within = All-nil (λ id. id < length d.exprs); stand = refl }
-
 AreRead-next : {old now new : Drafted} {es : List Expr} {ids : List ℕ} {x : Expr} {k : ℕ} → AreRead old now es ids → IsRead now new x k → AreRead old new (es ++ x ∷ []) (ids ++ k ∷ [])
 AreRead-next {old} {now} {new} {es} {ids} {x} {k} r p =
     let longer : length now.exprs ≤ length new.exprs = omega (arith, ap length p.grows.exprs, length-append now.exprs p.grows.more) in record {
@@ -313,9 +287,6 @@ pub record PartsRead (at : List ℕ) (old now : Drafted) (ids : List ℕ) (i : �
   pub read : AreRead old now found ids
   pub nodes : now.nodes ≡ old.nodes
   pub kept : IsExtended old.names now.names
-
-pub PartsRead-none : (at : List ℕ) (old : Drafted) (vs : List Value) → PartsRead at old old [] 0 vs
-PartsRead-none at old vs = record { found = []; each = EachRead-none _ at (counts old) vs; read = AreRead-none old; nodes = refl; kept = IsExtended-refl old.names }
 
 pub PartsRead-next : {at : List ℕ} {old now : Drafted} {ids : List ℕ} {i : ℕ} {vs : List Value} → PartsRead at old now ids i vs → (v : Value) → i < length vs → v ≡ get_or vs i v → (here : Spot) → here ≡ spot (element at i) (view v) → (new : Drafted) (k : ℕ)
     → ArgumentRead here now new k → new.nodes ≡ now.nodes → IsExtended now.names new.names → PartsRead at old new (ids ++ k ∷ []) (i + 1) vs

@@ -72,7 +72,7 @@ module _ (words : List (List ℕ)) (s : Scene) where
     pub says : Says end
     pub kept : Kept s
 
-  -- That, and the sink for messages took the status's text and nothing else.
+  -- That, and the sink for messages took the status's text and nothing else, or a prefix of it where its count rose.
   pub record Answers (err err_after : Writing) (end : End) : Type 0 where
     pub performs : Performs end
     pub text : TookText err err_after (message end)
