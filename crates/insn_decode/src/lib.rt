@@ -1,2 +1,9 @@
-//! x
+//! The decision tree: the few leaves that a word can be found at, by tests of its bits, and the leaves that it is found at.
 #![tactic(auto)]
+
+mod bits;
+mod growing;
+mod lookup;
+mod member;
+mod node;
+mod splitting;
