@@ -1,4 +1,5 @@
 mod Worked
+mod WorkedWalk
 pub mod Encoding
 pub mod Assignments
 pub mod Uses

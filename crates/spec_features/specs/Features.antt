@@ -32,3 +32,7 @@ is_boolean AnEnum = false
 -- the names of the boolean parameters, in order
 abbrev pub booleans : {N : Type 0} → List (ParamOf N) → List N
 booleans params = map (λ p. p.name) (filter (λ p. is_boolean p.kind) params)
+
+-- the most parameters
+abbrev pub param_limit : ℕ
+param_limit = 4096

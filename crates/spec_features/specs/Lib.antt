@@ -1,6 +1,9 @@
--- Features: parameters and constraints; when two expressions are one fact; formulas; constraints as formulas over
+-- Features: parameters and constraints; how they are read from a document; when two expressions are one fact; formulas; constraints as formulas over
 -- parameters and atoms; which configurations fit, and which is first; and clauses that say the same.
 pub mod Features
+pub mod Kind
+pub mod Walk
+pub mod Reading
 pub mod Fact
 pub mod Formula
 pub mod Theory

@@ -1,11 +1,12 @@
--- Worked values: command lines, and documents that are refused.
-use Rattle.std.specs.Prelude.{◌≡◌, [], ◌∷◌, Err, Result, codes, refl, ℕ, List, ◌++◌}
+-- Worked values: command lines, documents that are refused, and what runs put out.
+use Rattle.std.specs.Prelude.{◌≡◌, [], ◌∷◌, Ok, Err, Result, codes, refl, ℕ, List, ◌++◌}
 use Rattle.std.specs.Fmt.{digits}
 use Rattle.serde_json.specs.Read.{read}
 use Rattle.serde_json.proofs.OnLiterals.{serde_json_on_literals}
 use Rattle.spec_walk.specs.Event.{Missing, UnlistedKind}
 use Rattle.spec_decode.specs.Machine.{Machine}
-use Rattle.spec_command.specs.Commands.{AskList, AskLeaf}
+use Rattle.spec_command.specs.Request.{request}
+use Rattle.spec_command.specs.Commands.{Request, AskList, AskLeaf}
 use Rattle.spec_run.specs.End.{Done, Ragged, Usage, Document, Question, NoLeaf, ReadFault, WriteFault, Limit, Insns, Log, Input, Json, Schema, Syntax, message}
 use Rattle.spec_run.specs.Opening.{OpeningError, Refused, of_value}
 use Rattle.spec_run.specs.Work.{Outcome}
@@ -58,16 +59,24 @@ no_stream : of_stream [] ≡ record { end = Done; out = [] }
 unfolding digits serde_json_on_literals
 no_stream = refl
 
--- a leaf without items, whose condition names a feature, and the features that are on
-abbrev with_features : List (List ℕ) → Outcome
-with_features on = after_opening (AskList (record { insns = []; isa = [] }) []) (opened_by on (codes "{\"instructions\":[{\"_type\":\"Instruction.InstructionSet\",\"name\":\"A64\",\"children\":[{\"_type\":\"Instruction.Instruction\",\"name\":\"L\",\"condition\":{\"_type\":\"AST.Identifier\",\"value\":\"F\"}}]}]}")) (0 ∷ 0 ∷ 0 ∷ 0 ∷ [])
+-- a leaf without items, whose condition names a feature, and words that name features
+abbrev conditioned : List ℕ
+conditioned = codes "{\"instructions\":[{\"_type\":\"Instruction.InstructionSet\",\"name\":\"A64\",\"children\":[{\"_type\":\"Instruction.Instruction\",\"name\":\"L\",\"condition\":{\"_type\":\"AST.Identifier\",\"value\":\"F\"}}]}]}"
 
-not_known : with_features [] ≡ record { end = Done; out = codes "00000000 00000000 open L\n" }
+-- what a request to list puts out over that document and one word
+abbrev listed : Result Request ℕ → Outcome
+listed (Ok (AskList release on)) = after_opening (AskList release on) (of_value release.isa on (read conditioned)) (0 ∷ 0 ∷ 0 ∷ 0 ∷ [])
+listed other = record { end = Usage 0; out = [] }
+
+abbrev asked : List (List ℕ) → Outcome
+asked words = listed (request (codes "list" ∷ codes "insns=d" ∷ words))
+
+not_known : asked [] ≡ record { end = Done; out = codes "00000000 00000000 open L\n" }
 unfolding digits serde_json_on_literals
 not_known = refl
 
 -- also where it is named twice
-known : with_features (codes "E" ∷ codes "F" ∷ codes "F" ∷ []) ≡ record { end = Done; out = codes "00000000 00000000 one L\n" }
+known : asked (codes "on=E" ∷ codes "on=F" ∷ codes "on=F" ∷ []) ≡ record { end = Done; out = codes "00000000 00000000 one L\n" }
 unfolding digits serde_json_on_literals
 known = refl
 

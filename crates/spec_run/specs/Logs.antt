@@ -5,7 +5,7 @@ use Rattle.spec_io.specs.Documents.{Document as Named, document_of}
 use Rattle.spec_refutation.specs.Derivation.{Step}
 use Rattle.spec_refutation.specs.Refutation.{failure}
 use Rattle.spec_refutation.specs.LogReading.{log_in}
-use Rattle.spec_lines.specs.Verdict.{refuted_line, fails_line}
+use Rattle.spec_lines.specs.LogLine.{refuted_line, fails_line}
 use Rattle.spec_run.specs.End.{Log, Syntax, Done}
 use Rattle.spec_run.specs.Opening.{OpeningError, Refused, by_bytes}
 use Rattle.spec_run.specs.Work.{Outcome}

@@ -10,4 +10,4 @@ mod ranges;
 pub use fixed_bits::FixedBits;
 pub use given::Given;
 pub use layout::WordLayout;
-pub use ranges::field_bits;
+pub use ranges::{field_bits, is_too_wide};

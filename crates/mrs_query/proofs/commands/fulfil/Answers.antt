@@ -20,7 +20,7 @@ returns-in_ok-opened-in-List-clause-fulfils g c =
     rw c.in-List.is (work_done _ (AskList (release_of c.in-List.release) c.in-List.on) o.opened c.list_stream.result o.ensures.opens o.ensures.same c.list_stream.ensures)
 
 pub returns-in_ok-opened-in-List-clause-early : goal.returns-in_ok-opened-in-List-clause-early
-returns-in_ok-opened-in-List-clause-early g c = λ early. absurd (never_early _ _ _ _ _ _ (list_fits c.in_ok-opened-in-List.opened.paths) c.list_stream.ensures early)
+returns-in_ok-opened-in-List-clause-early g c = λ early. absurd (never_early _ _ _ _ _ _ (list_fits c.in_ok-opened-in-List.opened) c.list_stream.ensures early)
 
 pub returns-in_err-opened-in-Leaf-clause-fulfils : goal.returns-in_err-opened-in-Leaf-clause-fulfils
 returns-in_err-opened-in-Leaf-clause-fulfils g c =
