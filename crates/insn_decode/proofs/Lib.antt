@@ -4,3 +4,4 @@ pub mod DecideLaws
 pub mod SettledLaws
 pub mod LookupLaws
 pub mod GrowLaws
+pub mod DeciderLaws

@@ -2,8 +2,12 @@
 #![tactic(auto)]
 
 mod bits;
+mod decider;
+mod gathering;
 mod growing;
 mod lookup;
 mod member;
 mod node;
 mod splitting;
+
+pub use decider::Decider;

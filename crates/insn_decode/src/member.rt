@@ -1,9 +1,10 @@
 //! Leaves with the bits that their paths fix.
 
-ghost use Rattle.std.specs.Prelude.{◌≡◌, bit_and};
+ghost use Rattle.std.specs.Prelude.{◌≡◌, IfOk, bit_and, map};
 
 use crate::bits::bit;
-use insn_tree::LeafId;
+use insn_tree::{LeafId, NoMemory};
+use std::alloc::Global;
 
 /// A leaf, and the bits of the word that its path fixes: `mask` has these bits, and `value` those that are fixed to 1.
 #[derive(Clone, Copy)]
@@ -45,4 +46,15 @@ impl Member {
     {
         w & self.mask == self.value
     }
+}
+
+/// The leaves of these, in order.
+pub(crate) fn leaves_of(alloc: Global, members: &[Member]) -> Result<Vec<LeafId>, NoMemory>
+    ensures { IfOk result (λ leaves. map (λ l. l.0) leaves.items ≡ map (λ m. m.leaf.0) members.now) }
+{
+    let mut leaves = Vec::with_capacity(alloc, members.len())?;
+    for member in members {
+        leaves.push(member.leaf)?;
+    }
+    Ok(leaves)
 }
