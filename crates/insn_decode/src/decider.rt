@@ -38,6 +38,7 @@ impl Model for Decider {
 impl Decider {
     ghost use Rattle.std.specs.Prelude.{◌≤◌, ◌+◌, List, IfOk, map};
     ghost use Rattle.spec_decode.specs.Bucket.{Encoding};
+    ghost use Rattle.insn_decode.specs.Members.{encoding_of};
     ghost use Rattle.insn_decode.specs.Deciders.{Tells, IsDeciderOf, AreOfBucket};
 
     /// The decision tree over the leaves of a tree.
@@ -45,9 +46,16 @@ impl Decider {
         ensures { IfOk result (IsDeciderOf tree.now) }
     {
         let members = gather(alloc, tree)?;
+        Decider::over(alloc, &members)
+    }
+
+    /// The decision tree over these leaves.
+    pub(crate) fn over(alloc: Global, members: &[Member]) -> Result<Decider, NoMemory>
+        ensures { IfOk result (λ d. Tells d (map encoding_of members.now)) }
+    {
         let mut nodes = Vec::new(alloc);
         let mut order = Vec::with_capacity(alloc, members.len())?;
-        let root = grow(alloc, &mut nodes, &mut order, &members)?;
+        let root = grow(alloc, &mut nodes, &mut order, members)?;
         let leaves = leaves_of(alloc, &order)?;
         Ok(Decider {
             nodes,

@@ -8,6 +8,9 @@ mod growing;
 mod lookup;
 mod member;
 mod node;
+mod shared;
 mod splitting;
+#[cfg(test)]
+mod tests;
 
 pub use decider::Decider;
