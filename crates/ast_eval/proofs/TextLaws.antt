@@ -114,7 +114,7 @@ module _ (text : ℕ → List ℕ) (P : ℕ → Type 0) (apart : TellApart text 
 
 -- ---- a text of its own for each number
 
-own_apart : TellApart own_text (λ _. Unit {0})
+pub own_apart : TellApart own_text (λ _. Unit {0})
 own_apart a b _ _ =
     same_from_decides (bytes_eq (own_text a) (own_text b)) (b == a)
     (Decides-like (bytes_eq (own_text a) (own_text b)) (λ e. cc) (λ e. ap own_text (sym e)) (bytes_eq-Decides (own_text a) (own_text b)))
@@ -127,7 +127,7 @@ none_left items k d within = any (get_or items k d).name
     any None = tt
     any (Some n) = tt
 
-field_named-own : (name : ℕ) (items : List FlatItem) → field_named (own_text name) (fields_by own_text items) ≡ option_map (field_of own_text (λ _. Unit {0}) own_apart name) (last_named name items)
+pub field_named-own : (name : ℕ) (items : List FlatItem) → field_named (own_text name) (fields_by own_text items) ≡ option_map (field_of own_text (λ _. Unit {0}) own_apart name) (last_named name items)
 field_named-own name items = field_named-text own_text (λ _. Unit {0}) own_apart name tt items (none_left items)
 
 pub state_of-own : (name : ℕ) (c : Choices) → state_of (own_text name) (configuration_of own_text c) ≡ option_map Flag (state_in name c)

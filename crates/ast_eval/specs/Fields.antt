@@ -21,6 +21,10 @@ last_named name (it ∷ items) = option_or (last_named name items) (if has_name_
 abbrev pub bounds_of : FlatItem → ℕ × ℕ
 bounds_of it = (it.start, length it.digits)
 
+-- the lowest bit of a field, and how many bits it has
+abbrev pub field_bounds : Field → ℕ × ℕ
+field_bounds f = (f.start, f.width)
+
 -- the fields that are visible behind items, by these texts of names
 abbrev pub item_by : (ℕ → List ℕ) → FlatItem → Item
 item_by text it = with_text (option_map text it.name) it

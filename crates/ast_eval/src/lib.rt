@@ -12,10 +12,15 @@ mod memory;
 mod named;
 mod operators;
 mod row;
+mod shared;
+#[cfg(test)]
+mod tests;
 mod val;
+mod worth;
 
 pub use config::Config;
 pub use env::Env;
 pub use kleene::Truth;
 pub use memory::NoMemory;
 pub use val::Val;
+pub use worth::{eval, truth};

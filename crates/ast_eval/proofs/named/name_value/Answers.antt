@@ -10,8 +10,8 @@ pub returns-in-Some : goal.returns-in-Some
 returns-in-Some c =
     ap APattern c.of_slice.ensures.digits
     ∙ ap (λ bits. APattern (low_digits c.in-Some.range.width (slice bits c.in-Some.range.start c.in-Some.range.width))) c.from.ensures
-    ∙ name_value-some c.args.name.0 c.args.w c.args.env.now c.args.config.now c.in-Some.range (sym (ap (option_map range_bounds) c.in-Some.is) ∙ c.range_of.ensures)
+    ∙ name_value-some c.args.name.0 c.args.w c.args.env.now c.args.config.now c.in-Some.range (sym (ap (option_map range_bounds) c.in-Some.is) ∙ c.range_of.ensures.deepest)
 
 pub returns-in-None : goal.returns-in-None
 returns-in-None c =
-    ap ATruth c.state_truth.ensures ∙ name_value-none c.args.name.0 c.args.w c.args.env.now c.args.config.now (sym (ap (option_map range_bounds) c.in-None.is) ∙ c.range_of.ensures)
+    ap ATruth c.state_truth.ensures ∙ name_value-none c.args.name.0 c.args.w c.args.env.now c.args.config.now (sym (ap (option_map range_bounds) c.in-None.is) ∙ c.range_of.ensures.deepest)
