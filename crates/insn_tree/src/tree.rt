@@ -54,6 +54,7 @@ impl Tree {
     ghost use Rattle.spec_decode.specs.Verdict.{path_holds};
     ghost use Rattle.ast_eval.specs.Views.{truth_of};
     ghost use Rattle.insn_tree.specs.Verdicts.{IsVerdictOf};
+    ghost use Rattle.spec_decode.specs.Bucket.{AreWithinWord};
     ghost use Rattle.insn_tree.specs.Trees.{IsOf, tree_paths, path_at, label_text, label_number, field_of, IsLeafAbove};
 
     /// The tree of an arena, the texts of whose names are held by `names`.
@@ -83,9 +84,10 @@ impl Tree {
         &self.arena
     }
 
-    /// How many leaves there are.
+    /// How many leaves there are. The items along the paths to them lie within the word.
     pub fn leaves(&self) -> u32
-        ensures { result ≡ length (leaves_of self.now.nodes) }
+        ensures count { result ≡ length (leaves_of self.now.nodes) }
+        ensures within { (names : List (List ℕ)) → AreWithinWord (tree_paths names self.now) }
     {
         self.leaves.nodes.len() as u32
     }
