@@ -3,3 +3,4 @@ pub mod OverLaws
 pub mod OverRules
 pub mod LayoutLaws
 pub mod OpenLaws
+pub mod PlacedLaws
