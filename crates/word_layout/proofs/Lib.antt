@@ -4,3 +4,4 @@ pub mod OverRules
 pub mod LayoutLaws
 pub mod OpenLaws
 pub mod PlacedLaws
+pub mod NumberLaws
