@@ -9,10 +9,9 @@ use Rattle.std.proofs.lemmas.List.Elements.{All-nil, All-cons, All-head, All-tai
 use Rattle.spec_bits.specs.Bits.{bit_of}
 use Rattle.spec_bits.specs.Item.{fixes, should_be}
 use Rattle.spec_instructions.specs.Paths.{path_items}
-use Rattle.spec_instructions.specs.Fields.{Field, fields}
+use Rattle.spec_instructions.specs.Fields.{fields}
 use Rattle.spec_encoding.specs.Parts.{covers}
-use Rattle.spec_encoding.specs.Layout.{Layout, numbers}
-use Rattle.spec_encoding.specs.PathLayout as path
+use Rattle.spec_encoding.specs.Layout.{numbers}
 use Rattle.spec_encoding.specs.PathLayout.{first_fixed, last_should_be, layout}
 use Rattle.spec_encoding.proofs.PathLaws.{first_fixed-lt, last_should_be-lt}
 use Rattle.spec_encoding.proofs.SameLayouts.{SameLayout, numbers-same}

@@ -1,8 +1,7 @@
-use Rattle.std.proofs.Common.{◌≡◌, ◌∙◌, sym, ap, ◌<◌, length, map, None}
+use Rattle.std.proofs.Common.{◌<◌, length, map}
 use Rattle.std.proofs.lemmas.List.Elements.{All-rest}
 use Rattle.mrs_arena.specs.Views.{flat_item, node_put}
 use Rattle.word_layout.specs.Views.{fixed_in}
-use Rattle.insn_tree.specs.Upward.{upward}
 use Rattle.insn_tree.specs.Layouts.{fix_first, fixed_at}
 use Rattle.insn_tree.proofs.UpwardLaws.{upward-step}
 use Rattle.insn_tree.proofs.leaf_layout.fixed_bits.Goals as goal
