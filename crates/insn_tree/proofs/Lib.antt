@@ -13,3 +13,4 @@ mod KeptLaws
 pub mod GrownTrees
 pub mod ConditionLaws
 pub mod TruthLaws
+pub mod LayoutLaws
