@@ -1,32 +1,11 @@
 //! What is said of a row that differs.
 use crate::stop::Stop;
-use std::fmt;
 
 /// The most bytes that are shown of a text.
 const SHOWN: usize = 300;
 
 /// How many bytes are shown that still agree.
 const BEFORE: usize = 60;
-
-/// Bytes as text: what is no visible ASCII as `\n` or `\x` and two digits.
-#[derive(Clone, Copy)]
-struct Shown<'a>(&'a [u8]);
-
-impl fmt::Display for Shown<'_> {
-    fn fmt<W: fmt::Write>(&self, f: &mut fmt::Formatter<W>) -> fmt::Result {
-        for byte in self.0.iter().take(SHOWN) {
-            match *byte {
-                b'\n' => f.write_str("\\n")?,
-                b' '..=b'~' => f.write_char(char::from(*byte))?,
-                other => write!(f, "\\x{other:02x}")?,
-            }
-        }
-        if self.0.len() > SHOWN {
-            f.write_str("..")?;
-        }
-        Ok(())
-    }
-}
 
 /// How many bytes the two texts begin with alike.
 fn alike(one: &[u8], other: &[u8]) -> usize {
@@ -40,28 +19,26 @@ fn alike(one: &[u8], other: &[u8]) -> usize {
     count
 }
 
-/// What stands behind the first bytes of a text.
-fn behind(text: &[u8], count: usize) -> Shown<'_> {
-    match text.get(count..) {
-        Some(rest) => Shown(rest),
-        None => Shown(&[]),
+/// What is shown of a text from a byte on.
+fn shown(text: &[u8], from: usize) -> &[u8] {
+    let Some(rest) = text.get(from..) else {
+        return &[];
+    };
+    match rest.get(..SHOWN) {
+        Some(front) => front,
+        None => rest,
     }
 }
 
 /// Appends lines on two texts that are not equal.
-pub(crate) fn push_text(
-    report: &mut String,
-    name: &str,
-    wanted: &[u8],
-    came: &[u8],
-) -> Result<(), Stop> {
+pub fn push_text(report: &mut String, name: &str, wanted: &[u8], came: &[u8]) -> Result<(), Stop> {
     if wanted == came {
         return Ok(());
     }
     let same = alike(wanted, came);
     let from = same.saturating_sub(BEFORE);
-    let wanted = behind(wanted, from);
-    let came = behind(came, from);
+    let wanted = shown(wanted, from).escape_ascii();
+    let came = shown(came, from).escape_ascii();
     writeln!(
         report,
         "  {name} differs at byte {same}, shown from byte {from}"
@@ -72,12 +49,7 @@ pub(crate) fn push_text(
 }
 
 /// Appends a line on two numbers that are not equal.
-pub(crate) fn push_number(
-    report: &mut String,
-    name: &str,
-    wanted: u64,
-    came: u64,
-) -> Result<(), Stop> {
+pub fn push_number(report: &mut String, name: &str, wanted: u64, came: u64) -> Result<(), Stop> {
     if wanted != came {
         writeln!(report, "  {name}: wanted {wanted}, came {came}")?;
     }
