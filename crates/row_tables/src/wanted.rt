@@ -4,19 +4,19 @@ use crate::stop::Stop;
 use std::alloc::Global;
 
 #[derive(Drop)]
-pub(crate) struct Wanted {
+pub struct Wanted {
     /// The number with which the program ends.
-    pub(crate) status: Option<u32>,
+    pub status: Option<u32>,
     /// A part of the status's text, as its `Debug` writes it.
-    pub(crate) answer: String,
+    pub answer: String,
     /// What goes out.
-    pub(crate) out: Vec<u8>,
+    pub out: Vec<u8>,
     /// What is said of what went wrong.
-    pub(crate) err: Vec<u8>,
+    pub err: Vec<u8>,
 }
 
 impl Wanted {
-    pub(crate) fn nothing(alloc: Global) -> Wanted {
+    pub fn nothing(alloc: Global) -> Wanted {
         Wanted {
             status: None,
             answer: String::new(alloc),
@@ -26,7 +26,7 @@ impl Wanted {
     }
 
     /// Reads a line on the end of the row.
-    pub(crate) fn take(&mut self, alloc: Global, key: &str, text: &str) -> Result<(), Stop> {
+    pub fn take(&mut self, alloc: Global, key: &str, text: &str) -> Result<(), Stop> {
         let text = unquoted(text);
         match key {
             "status" => self.status = Some(small_number(text)?),

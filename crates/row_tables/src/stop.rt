@@ -3,7 +3,7 @@ use std::alloc::{AllocError, AllocFailed};
 use std::io;
 
 #[derive(Clone, Copy, Debug)]
-pub(crate) enum Stop {
+pub enum Stop {
     /// The line, or what it names, is not as the format of tables wants it.
     Line(&'static str),
     /// Memory ran out, or nothing can be printed.

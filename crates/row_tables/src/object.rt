@@ -7,22 +7,22 @@ use std::alloc::Global;
 const ROOM: usize = 4_194_304;
 
 #[derive(Drop)]
-pub(crate) struct Object {
+pub struct Object {
     /// The calls that fail, from 0.
-    pub(crate) fails: Vec<u32>,
+    pub fails: Vec<u32>,
     /// The most bytes that a call moves.
-    pub(crate) most: usize,
+    pub most: usize,
     /// How many bytes a sink takes in all.
-    pub(crate) room: usize,
+    pub room: usize,
     /// How many calls have to come, if the row says it.
-    pub(crate) calls: Option<u64>,
+    pub calls: Option<u64>,
     /// How many bytes have to move, if the row says it.
-    pub(crate) moves: Option<u64>,
+    pub moves: Option<u64>,
 }
 
 impl Object {
     /// An object that never fails and moves all that it is asked for.
-    pub(crate) fn sound(alloc: Global) -> Object {
+    pub fn sound(alloc: Global) -> Object {
         Object {
             fails: Vec::new(alloc),
             most: ROOM,
@@ -33,7 +33,7 @@ impl Object {
     }
 
     /// Reads what a line says of the object.
-    pub(crate) fn take(&mut self, alloc: Global, key: &str, value: &str) -> Result<(), Stop> {
+    pub fn take(&mut self, alloc: Global, key: &str, value: &str) -> Result<(), Stop> {
         match key {
             "fails" => self.fails = numbers(alloc, value)?,
             "most" => self.most = number(value)? as usize,

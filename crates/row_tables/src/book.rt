@@ -6,7 +6,7 @@ use std::rt::Files;
 
 /// A document: what its frame has before it, its own pieces, and what the frame has behind it.
 #[derive(Drop)]
-pub(crate) struct Document {
+pub struct Document {
     name: String,
     before: Vec<u8>,
     pieces: Vec<Piece>,
@@ -15,7 +15,7 @@ pub(crate) struct Document {
 
 /// A text with a hole, which documents and other frames fill.
 #[derive(Drop)]
-pub(crate) struct Frame {
+pub struct Frame {
     name: String,
     before: Vec<u8>,
     has_hole: bool,
@@ -25,14 +25,14 @@ pub(crate) struct Frame {
 
 /// What the tables have declared. The last one of a name counts.
 #[derive(Drop)]
-pub(crate) struct Book {
+pub struct Book {
     documents: Vec<Document>,
     frames: Vec<Frame>,
 }
 
 impl Document {
     /// Reads a line of the document.
-    pub(crate) fn take(&mut self, alloc: Global, line: &str) -> Result<(), Stop> {
+    pub fn take(&mut self, alloc: Global, line: &str) -> Result<(), Stop> {
         self.pieces.push(Piece::read(alloc, line)?)?;
         Ok(())
     }
@@ -50,7 +50,7 @@ impl Document {
 
 impl Frame {
     /// Reads a line of the frame.
-    pub(crate) fn take<R: Files + AllocGlobal>(&mut self, rt: &R, line: &str) -> Result<(), Stop> {
+    pub fn take<R: Files + AllocGlobal>(&mut self, rt: &R, line: &str) -> Result<(), Stop> {
         if line == "hole" {
             if self.has_hole {
                 return Err(Stop::Line("a frame has one hole"));
@@ -75,7 +75,7 @@ impl Frame {
 }
 
 impl Book {
-    pub(crate) fn new(alloc: Global) -> Book {
+    pub fn new(alloc: Global) -> Book {
         Book {
             documents: Vec::new(alloc),
             frames: Vec::new(alloc),
@@ -97,12 +97,7 @@ impl Book {
     }
 
     /// A document of that name in a frame, with no piece yet.
-    pub(crate) fn new_document(
-        &self,
-        alloc: Global,
-        name: &str,
-        frame: &str,
-    ) -> Result<Document, Stop> {
+    pub fn new_document(&self, alloc: Global, name: &str, frame: &str) -> Result<Document, Stop> {
         let (before, after) = self.around(alloc, frame)?;
         Ok(Document {
             name: String::from_str(alloc, name)?,
@@ -113,7 +108,7 @@ impl Book {
     }
 
     /// A frame of that name in another, with no piece yet.
-    pub(crate) fn new_frame(&self, alloc: Global, name: &str, outer: &str) -> Result<Frame, Stop> {
+    pub fn new_frame(&self, alloc: Global, name: &str, outer: &str) -> Result<Frame, Stop> {
         let (before, outer_after) = self.around(alloc, outer)?;
         Ok(Frame {
             name: String::from_str(alloc, name)?,
@@ -124,12 +119,12 @@ impl Book {
         })
     }
 
-    pub(crate) fn put_document(&mut self, document: Document) -> Result<(), Stop> {
+    pub fn put_document(&mut self, document: Document) -> Result<(), Stop> {
         self.documents.push(document)?;
         Ok(())
     }
 
-    pub(crate) fn put_frame(&mut self, frame: Frame) -> Result<(), Stop> {
+    pub fn put_frame(&mut self, frame: Frame) -> Result<(), Stop> {
         if !frame.has_hole {
             return Err(Stop::Line("the frame above has no hole"));
         }
@@ -138,7 +133,7 @@ impl Book {
     }
 
     /// The bytes of the document of that name, if one is declared.
-    pub(crate) fn bytes_of<R: Files + AllocGlobal>(
+    pub fn bytes_of<R: Files + AllocGlobal>(
         &self,
         rt: &R,
         name: &str,

@@ -3,7 +3,7 @@ use crate::stop::Stop;
 
 /// An object of the outside.
 #[derive(Clone, Copy, PartialEq, Eq)]
-pub(crate) enum Target {
+pub enum Target {
     Shelf,
     Input,
     Out,
@@ -12,7 +12,7 @@ pub(crate) enum Target {
 
 impl Target {
     /// The object of that name.
-    pub(crate) fn read(name: &str) -> Result<Target, Stop> {
+    pub fn read(name: &str) -> Result<Target, Stop> {
         match name {
             "shelf" => Ok(Target::Shelf),
             "input" => Ok(Target::Input),
@@ -22,7 +22,7 @@ impl Target {
         }
     }
 
-    pub(crate) fn name(self) -> &'static str {
+    pub fn name(self) -> &'static str {
         match self {
             Target::Shelf => "shelf",
             Target::Input => "input",

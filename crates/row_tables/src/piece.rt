@@ -6,7 +6,7 @@ use std::fs;
 use std::rt::Files;
 
 #[derive(Drop)]
-pub(crate) enum Piece {
+pub enum Piece {
     /// These bytes.
     Bytes(Vec<u8>),
     /// The text so many times.
@@ -23,7 +23,7 @@ pub(crate) enum Piece {
 
 impl Piece {
     /// Reads a line of a document.
-    pub(crate) fn read(alloc: Global, line: &str) -> Result<Piece, Stop> {
+    pub fn read(alloc: Global, line: &str) -> Result<Piece, Stop> {
         if let Some(text) = line.strip_prefix(' ') {
             let text = format!(in alloc; "{text}\n")?;
             return Ok(Piece::Bytes(text.as_bytes().to_vec(alloc)?));
@@ -55,11 +55,7 @@ impl Piece {
     }
 
     /// Appends the bytes of the piece.
-    pub(crate) fn push<R: Files + AllocGlobal>(
-        &self,
-        rt: &R,
-        out: &mut Vec<u8>,
-    ) -> Result<(), Stop> {
+    pub fn push<R: Files + AllocGlobal>(&self, rt: &R, out: &mut Vec<u8>) -> Result<(), Stop> {
         match self {
             Piece::Bytes(bytes) => Ok(out.extend_from_slice(bytes)?),
             Piece::Times(count, text) => push_times(out, *count, text.as_bytes()),

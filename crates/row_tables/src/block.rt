@@ -7,7 +7,7 @@ use std::alloc::Global;
 use std::rt::Files;
 
 #[derive(Drop)]
-pub(crate) enum Block {
+pub enum Block {
     Nothing,
     Document(Document),
     Frame(Frame),
@@ -16,12 +16,12 @@ pub(crate) enum Block {
 
 impl Block {
     /// Whether a line begins a block.
-    pub(crate) fn is_begun_by(line: &str) -> bool {
+    pub fn is_begun_by(line: &str) -> bool {
         matches!(split_key(line).0, "row" | "document" | "frame")
     }
 
     /// The block that a line begins.
-    pub(crate) fn begun_by(alloc: Global, book: &Book, line: &str) -> Result<Block, Stop> {
+    pub fn begun_by(alloc: Global, book: &Book, line: &str) -> Result<Block, Stop> {
         let (key, rest) = split_key(line);
         if key == "row" {
             return Ok(Block::Row(Row::new(alloc, rest)?));
@@ -35,7 +35,7 @@ impl Block {
     }
 
     /// Reads a line of the block.
-    pub(crate) fn take<R: Files + AllocGlobal>(&mut self, rt: &R, line: &str) -> Result<(), Stop> {
+    pub fn take<R: Files + AllocGlobal>(&mut self, rt: &R, line: &str) -> Result<(), Stop> {
         match self {
             Block::Nothing => Err(Stop::Line(
                 "a table has blocks that begin with document, frame or row",

@@ -9,22 +9,22 @@ use std::alloc::Global;
 use std::rt::Files;
 
 #[derive(Drop)]
-pub(crate) struct Row {
-    pub(crate) title: String,
-    pub(crate) words: Vec<String>,
-    pub(crate) stream: Vec<u8>,
-    pub(crate) shelf: Object,
-    pub(crate) input: Object,
-    pub(crate) out: Object,
-    pub(crate) err: Object,
+pub struct Row {
+    pub title: String,
+    pub words: Vec<String>,
+    pub stream: Vec<u8>,
+    pub shelf: Object,
+    pub input: Object,
+    pub out: Object,
+    pub err: Object,
     /// The objects of which each call is to fail in turn.
-    pub(crate) sweeps: Vec<Target>,
-    pub(crate) wanted: Wanted,
+    pub sweeps: Vec<Target>,
+    pub wanted: Wanted,
 }
 
 impl Row {
     /// A row without words, over sound objects.
-    pub(crate) fn new(alloc: Global, title: &str) -> Result<Row, Stop> {
+    pub fn new(alloc: Global, title: &str) -> Result<Row, Stop> {
         Ok(Row {
             title: String::from_str(alloc, title)?,
             words: Vec::new(alloc),
@@ -39,7 +39,7 @@ impl Row {
     }
 
     /// Reads a line of the row.
-    pub(crate) fn take(&mut self, alloc: Global, line: &str) -> Result<(), Stop> {
+    pub fn take(&mut self, alloc: Global, line: &str) -> Result<(), Stop> {
         let (key, rest) = split_key(line);
         match key {
             "words" => push_words(alloc, &mut self.words, rest),
@@ -76,7 +76,7 @@ impl Row {
     }
 
     /// The documents that the words name, each with its bytes.
-    pub(crate) fn documents<R: Files + AllocGlobal>(
+    pub fn documents<R: Files + AllocGlobal>(
         &self,
         rt: &R,
         book: &Book,
