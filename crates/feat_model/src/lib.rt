@@ -3,4 +3,11 @@
 
 mod connective;
 mod encoder;
+mod faults;
 mod formula;
+mod model;
+mod pin;
+
+pub use faults::ModelFault;
+pub use model::Model;
+pub use pin::Pin;
