@@ -1,6 +1,7 @@
 //! Features as clauses: which configurations fit, which one is first, or a log that shows that none fits.
 #![tactic(auto)]
 
+mod clauses;
 mod connective;
 mod encoder;
 mod faults;

@@ -34,7 +34,7 @@ impl std::marker::Model for Model {
 }
 
 impl Model {
-    ghost use Rattle.std.specs.Prelude.{◌≡◌, nat_eq, length, position, map};
+    ghost use Rattle.std.specs.Prelude.{◌≡◌, nat_eq, length, position, map, IfSome, ◌<◌};
     ghost use Rattle.feat_model.specs.Views.{formula_of};
 
     /// The model of these parameters, atoms and constraints.
@@ -70,7 +70,8 @@ impl Model {
 
     /// The boolean parameter of that name, counted from 0.
     pub(crate) fn parameter(&self, name: NameId) -> Option<u32>
-        ensures { result ≡ position (nat_eq name.0) self.now.names }
+        ensures place { result ≡ position (nat_eq name.0) self.now.names }
+        ensures few { IfSome result (λ k. k < 4096) }
     {
         match self.names.get_index_of(&name) {
             Some(index) => Some(index as u32),

@@ -4,7 +4,7 @@ use Rattle.std.specs.Prelude.{flat_map, sum_by}
 use Rattle.std.proofs.lemmas.List.{length-append}
 use Rattle.std.proofs.lemmas.List.Sums.{sum_by-cons}
 use Rattle.spec_features.specs.Formula.{Connective, Conjunction, Disjunction, Implication, Equivalence, Formula, Constant, Variable, Negation, Joined, size}
-use Rattle.spec_features.specs.Clauses.{table, encoded, all_encoded, last_of, constraint_clauses}
+use Rattle.spec_features.specs.Clauses.{table, encoded, all_encoded, last_of, constraint_clauses, constraints_from}
 
 -- at most one variable and four clauses for each part
 pub last_few : (last : ℕ) (f : Formula) → (encoded last f).last ≤ last + size f
@@ -46,11 +46,11 @@ all_last_few last (f ∷ fs) =
     let whole : last_of (encoded last f).last fs ≤ last + (size f + sum_by size fs) = omega (arith, k, last_few last f) in
     omega (arith, whole, sum_by-cons size f fs)
 
-pub all_clauses_few : (last : ℕ) (fs : List Formula) → length (flat_map constraint_clauses (all_encoded last fs)) ≤ 5 * sum_by size fs
+pub all_clauses_few : (last : ℕ) (fs : List Formula) → length (constraints_from last fs) ≤ 5 * sum_by size fs
 all_clauses_few last [] = omega arith
 all_clauses_few last (f ∷ fs) =
     let e = encoded last f in
-    let rest : List (List ℤ) = flat_map constraint_clauses (all_encoded e.last fs) in
+    let rest : List (List ℤ) = constraints_from e.last fs in
     let k : length rest ≤ 5 * sum_by size fs = all_clauses_few e.last fs in
     let whole : length (constraint_clauses e ++ rest) ≤ 5 * (size f + sum_by size fs) =
     omega (arith, k, clauses_few last f, some_size f, length-append (constraint_clauses e) rest, length-append e.clauses ((e.literal ∷ []) ∷ [])) in
