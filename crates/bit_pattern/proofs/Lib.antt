@@ -6,3 +6,5 @@ pub mod JoinLaws
 pub mod PushLaws
 pub mod SliceLaws
 pub mod ReadLaws
+pub mod KnownLaws
+pub mod EndLaws

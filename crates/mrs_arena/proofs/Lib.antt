@@ -15,3 +15,4 @@ pub mod FillLaws
 pub mod ClosedLaws
 pub mod TreePaths
 pub mod LimitLaws
+pub mod NameLaws

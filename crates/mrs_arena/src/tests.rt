@@ -1,12 +1,18 @@
-//! Nodes are read back, items hold at words, and the answer where no more is taken.
+//! Nodes and expressions are read back, items hold at words, and the answer where no more is taken.
 
-use crate::{Arena, ArenaBuilder, BuildFault, Item, Kind, NodeId};
+use crate::{Arena, ArenaBuilder, BuildFault, Expr, ExprId, ExprRef, Func, Item, Kind, NodeId, Op};
 use bit_pattern::Pattern;
 use mrs_names::NameId;
 use std::process::Abort;
 use std::test::Fail;
 
 const ROOT: Option<NodeId> = Some(NodeId(0));
+
+const BIT: Pattern = Pattern {
+    width: 1,
+    mask: 1,
+    value: 1,
+};
 
 /// Puts a node, if it is not refused.
 fn put(
@@ -26,20 +32,28 @@ fn put_bit(rt: &impl Abort, builder: &mut ArenaBuilder, name: NameId) -> Result<
     builder.item(Item {
         name: Some(name),
         start: 31,
-        pattern: Pattern {
-            width: 1,
-            mask: 1,
-            value: 1,
-        },
+        pattern: BIT,
         should: 0,
     })
 }
 
-/// A set with a leaf, which has an item and an alias, and a group.
+/// Gives the last node a condition and a preference: the expressions of numbers 0 and 1.
+fn say(rt: &impl Abort, builder: &mut ArenaBuilder) -> Result<(), BuildFault> {
+    let condition = builder.expr(Expr::Truth(true))?;
+    let preferred = builder.expr(Expr::Other)?;
+    assert!(rt; !builder.is_place(None), "a node was put");
+    builder.condition(condition);
+    assert!(rt; !builder.is_place(None), "it is still there");
+    builder.preferred(preferred);
+    Ok(())
+}
+
+/// A set with a leaf, which has an item, expressions and an alias, and a group.
 fn build(rt: &impl Abort, builder: &mut ArenaBuilder) -> Result<(), BuildFault> {
     put(rt, builder, Kind::Set, None)?;
     let leaf = put(rt, builder, Kind::Leaf, ROOT)?;
     put_bit(rt, builder, NameId(1))?;
+    say(rt, builder)?;
     put(rt, builder, Kind::Alias, Some(leaf))?;
     put(rt, builder, Kind::Group, ROOT)?;
     assert!(rt; !builder.is_place(Some(leaf)), "the leaf is done");
@@ -54,6 +68,8 @@ fn assert_leaf(rt: &impl Abort, arena: &Arena) {
     assert_eq!(rt; leaf.parent(), ROOT);
     assert_eq!(rt; leaf.end(), 3);
     assert_eq!(rt; leaf.items().len(), 1);
+    assert_eq!(rt; leaf.condition(), Some(ExprId(0)));
+    assert_eq!(rt; leaf.preferred(), Some(ExprId(1)));
 }
 
 #[test]
@@ -65,6 +81,52 @@ fn nodes_are_read_back(rt: HostRuntime) -> Result<(), Fail> {
     assert_leaf(&rt, &arena);
     assert!(rt; 2 < arena.node_count());
     assert_eq!(rt; arena.path(NodeId(2)).count(), 3);
+    Ok(())
+}
+
+/// Puts one expression of each kind, those of parts behind two without.
+fn put_each(builder: &mut ArenaBuilder) -> Result<(), BuildFault> {
+    let left = builder.expr(Expr::Truth(true))?;
+    let right = builder.expr(Expr::Integer(-5))?;
+    builder.expr(Expr::Bits(BIT))?;
+    builder.expr(Expr::Name(NameId(7)))?;
+    builder.expr(Expr::Not(left))?;
+    builder.expr(Expr::Binary(Op::Implies, left, right))?;
+    let one = builder.list(&[right])?;
+    let two = builder.list(&[left, right])?;
+    builder.expr(Expr::Call(Func::Named(NameId(8)), two))?;
+    builder.expr(Expr::Set(one))?;
+    builder.expr(Expr::Join(two))?;
+    builder.expr(Expr::Slice(left, right, left))?;
+    builder.expr(Expr::Other)?;
+    Ok(())
+}
+
+#[test]
+fn expressions_are_read_back(rt: HostRuntime) -> Result<(), Fail> {
+    let mut builder = ArenaBuilder::new(rt.alloc());
+    put_each(&mut builder)?;
+    let arena = builder.close();
+    let left = ExprId(0);
+    let right = ExprId(1);
+    let table = [
+        ExprRef::Truth(true),
+        ExprRef::Integer(-5),
+        ExprRef::Bits(BIT),
+        ExprRef::Name(NameId(7)),
+        ExprRef::Not(left),
+        ExprRef::Binary(Op::Implies, left, right),
+        ExprRef::Call(Func::Named(NameId(8)), &[left, right]),
+        ExprRef::Set(&[right]),
+        ExprRef::Join(&[left, right]),
+        ExprRef::Slice(left, right, left),
+        ExprRef::Other,
+    ];
+    assert_eq!(rt; arena.expr_count(), 11);
+    for (k, want) in table.into_iter().enumerate() {
+        assert!(rt; k < 11);
+        assert_eq!(rt; arena.expr(ExprId(k as u32)), want);
+    }
     Ok(())
 }
 

@@ -1,7 +1,9 @@
 -- Laws of bits and slices.
-use Rattle.std.proofs.Common.{◌≡◌, ◌∙◌, sym, ap, ℕ, ◌+◌, ◌-◌, ◌/◌, ◌%◌, ◌^◌, ◌<◌, ◌≤◌, min, arith}
+use Rattle.std.proofs.Common.{◌≡◌, ◌∙◌, sym, ap, ℕ, suc, ◌+◌, ◌*◌, ◌-◌, ◌/◌, ◌%◌, ◌^◌, ◌<◌, ◌≤◌, min, arith}
 use Rattle.std.proofs.lemmas.Nat.{and_mask, shr-shr, mod_below, pow_pos}
 use Rattle.std.proofs.lemmas.Nat.Bits.{bit_at_and, bit_at_ones, bit_at-lt, bit_at_above}
+use Rattle.std.proofs.Math.Arith.{mod-mul}
+use Rattle.std.proofs.Math.Nat.{pow-succ'}
 use Rattle.spec_bits.specs.Bits.{bit_of, slice}
 
 -- a bit is 0 or 1
@@ -23,3 +25,7 @@ slice-lt w start width = mod_below (w / 2 ^ start) (2 ^ width) (pow_pos width)
 
 pub bit_of-slice_above : (w start width i : ℕ) → width ≤ i → bit_of (slice w start width) i ≡ 0
 bit_of-slice_above w start width i h = bit_at_above (slice w start width) width i (slice-lt w start width) h
+
+-- a number's lowest k + 1 bits are bit k and the lowest k
+pub mod-bit : (n k : ℕ) → n % 2 ^ suc k ≡ bit_of n k * 2 ^ k + n % 2 ^ k
+mod-bit n k = ap (λ c. n % c) (pow-succ' 2 k) ∙ mod-mul n {m = 2} {c = 2 ^ k} (omega arith) (pow_pos k)

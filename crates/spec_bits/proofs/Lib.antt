@@ -1,4 +1,5 @@
 pub mod BitLaws
+pub mod NumberLaws
 pub mod PatternLaws
 pub mod ItemLaws
 pub mod TextLaws

@@ -1,4 +1,5 @@
 pub mod Bits
 pub mod Pattern
+pub mod Number
 pub mod PatternText
 pub mod Item

@@ -1,20 +1,16 @@
 -- Digits without `x` hold of their number alone, so that two bit values are equal in either order.
 use Rattle.std.proofs.Common.{◌≡◌, ◌∙◌, refl, sym, ap, subst, ℕ, zero, suc, ◌+◌, ◌*◌, ◌/◌, ◌%◌, ◌^◌, ◌<◌, ◌==◌, Bool, true, false, ◌&&◌, List, [], ◌∷◌, length, Option, Some, None, option_map, unwrap_or, arith, pow_pos, mod-lt, mod-eq_of_lt, zero-mul, zero-add}
 use Rattle.std.specs.Prelude.{if◌then◌else◌}
-use Rattle.std.proofs.Math.Arith.{mod-mul}
 use Rattle.std.proofs.Math.Nat.{pow-succ', mod-one}
 use Rattle.std.proofs.lemmas.Bool.Decides.{nat_tests}
 use Rattle.std.proofs.lemmas.Cmp.{int_eq_equiv}
 use Rattle.spec_bits.specs.Bits.{bit_of}
 use Rattle.spec_bits.specs.Pattern.{Digit, Zero, One, Either, digit_value, digit_holds, pattern_holds}
+use Rattle.spec_bits.proofs.BitLaws.{mod-bit}
 use Rattle.spec_expressions.specs.Truth.{Truth, Yes, No, Open, truth_of, equivalence}
 use Rattle.spec_expressions.specs.Digits.{number_of, hold_of, equal_digits}
 use Rattle.spec_expressions.specs.Operations.{ATruth, ANumber, APattern}
 use Rattle.spec_expressions.specs.Laws.{EqualIsSymmetric}
-
--- a number's lowest k + 1 bits are bit k and the lowest k
-pub mod-bit : (n k : ℕ) → n % 2 ^ suc k ≡ bit_of n k * 2 ^ k + n % 2 ^ k
-mod-bit n k = ap (λ c. n % c) (pow-succ' 2 k) ∙ mod-mul n {m = 2} {c = 2 ^ k} (omega arith) (pow_pos k)
 
 same_some : {a b : ℕ} → Some a ≡ Some b → a ≡ b
 same_some {a} {b} e = ap (λ o. unwrap_or o 0) e

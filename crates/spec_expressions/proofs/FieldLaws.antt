@@ -1,35 +1,16 @@
 -- The bits of a field write the slice of the word.
-use Rattle.std.proofs.Common.{◌≡◌, ◌∙◌, refl, ap, ℕ, zero, suc, ◌+◌, ◌*◌, ◌/◌, ◌%◌, ◌^◌, ◌<◌, ◌==◌, true, cond, List, ◌∷◌, length, Option, Some, option_map, option_and_then, arith, pow_pos, mod-lt, mod-eq_of_lt, sym, ap₂, ◌-◌, ◌≤◌, drop, take, slice_range, pos, nat_le, nat_lt}
+use Rattle.std.proofs.Common.{◌≡◌, ◌∙◌, refl, ap, ℕ, zero, suc, ◌+◌, ◌/◌, ◌%◌, ◌^◌, ◌<◌, ◌==◌, true, List, ◌∷◌, length, Some, arith, pow_pos, mod-lt, mod-eq_of_lt, sym, ap₂, ◌-◌, ◌≤◌, drop, take, slice_range, pos, nat_le, nat_lt}
 use Rattle.std.specs.Prelude.{if◌then◌else◌}
 use Rattle.std.proofs.lemmas.Nat.{shr-shr}
 use Rattle.spec_bits.proofs.BitLaws.{bit_of-slice}
-use Rattle.std.proofs.Math.Nat.{mod-one}
+use Rattle.spec_bits.proofs.NumberLaws.{low_digits-length, number_of-low_digits}
 use Rattle.std.proofs.lemmas.Bool.Decides.{nat_tests}
 use Rattle.spec_bits.specs.Bits.{bit_of, slice}
-use Rattle.spec_bits.specs.Pattern.{Digit, Zero, One, digit_value, pattern_holds}
+use Rattle.spec_bits.specs.Pattern.{Digit, Zero, One, pattern_holds}
 use Rattle.spec_expressions.specs.Truth.{truth_of}
 use Rattle.spec_expressions.specs.Digits.{low_digits, number_of, equal_digits, digits_between}
 use Rattle.spec_expressions.specs.Scope.{Field, field_digits}
 use Rattle.spec_expressions.specs.Laws.{AreSlices}
-use Rattle.spec_expressions.proofs.DigitLaws.{mod-bit}
-
-low_digits-length : (n w : ℕ) → length (low_digits n w) ≡ n
-low_digits-length zero w = refl
-low_digits-length (suc n) w = ap suc (low_digits-length n w)
-
-digit_value-bit : (b : ℕ) → b < 2 → digit_value (cond (b == 1) One Zero) ≡ Some b
-digit_value-bit zero h = refl
-digit_value-bit (suc zero) h = refl
-digit_value-bit (suc (suc b)) h = absurd (omega (arith, h))
-
-bit_value : (b c m : ℕ) (d : Option ℕ) (ms : Option ℕ) → d ≡ Some b → ms ≡ Some m → option_and_then (λ bit. option_map (λ n. bit * c + n) ms) d ≡ Some (b * c + m)
-bit_value b c m d ms e f = rw (e, f) refl
-
-number_of-low_digits : (n w : ℕ) → number_of (low_digits n w) ≡ Some (w % 2 ^ n)
-number_of-low_digits zero w = rw (mod-one w) refl
-number_of-low_digits (suc n) w =
-    rw (low_digits-length n w) (bit_value (bit_of w n) (2 ^ n) (w % 2 ^ n) _ _ (digit_value-bit (bit_of w n) (mod-lt (w / 2 ^ n) (omega arith))) (number_of-low_digits n w))
-    ∙ ap Some (sym (mod-bit w n))
 
 pub number_of-field : (f : Field) (w : ℕ) → number_of (field_digits f w) ≡ Some (slice w f.start f.width)
 number_of-field f w = number_of-low_digits f.width (slice w f.start f.width) ∙ ap Some (mod-eq_of_lt (mod-lt (w / 2 ^ f.start) (pow_pos f.width)))

@@ -1,19 +1,9 @@
--- Bits as numbers, parts of bits, and bits compared, where some of them may be `x`.
-use Rattle.std.specs.Prelude.{ℕ, zero, suc, ◌+◌, ◌*◌, ◌-◌, ◌^◌, ◌==◌, nat_le, nat_lt, ℤ, pos, negsuc, List, [], ◌∷◌, length, slice_range, ◌&&◌, if◌then◌else◌, Option, Some, None, is_some, unwrap_or, option_map, option_and_then}
+-- Parts of bits, and bits compared, where some of them may be `x`.
+use Rattle.std.specs.Prelude.{ℕ, ◌-◌, ◌==◌, nat_le, nat_lt, ℤ, pos, negsuc, List, length, slice_range, ◌&&◌, if◌then◌else◌, Option, Some, None, is_some, unwrap_or, option_map}
 use Rattle.std.specs.List.{list_all}
-use Rattle.spec_bits.specs.Bits.{bit_of}
-use Rattle.spec_bits.specs.Pattern.{Digit, Zero, One, digit_value, digit_holds, pattern_holds}
+use Rattle.spec_bits.specs.Pattern.{Digit, digit_holds, pattern_holds}
+pub use Rattle.spec_bits.specs.Number.{low_digits, number_of}
 use Rattle.spec_expressions.specs.Truth.{Truth, Open, truth_of}
-
--- the lowest n bits of a number as digits, the highest first
-abbrev pub low_digits : ℕ → ℕ → List Digit
-low_digits zero w = []
-low_digits (suc n) w = (if bit_of w n == 1 then One else Zero) ∷ low_digits n w
-
--- the number that digits write, where none of them is `x`
-abbrev pub number_of : List Digit → Option ℕ
-number_of [] = Some 0
-number_of (d ∷ ds) = option_and_then (λ bit. option_map (λ n. bit * 2 ^ length ds + n) (number_of ds)) (digit_value d)
 
 -- of digits without `x`, whether each is that bit; else Open
 abbrev pub each_is : ℕ → List Digit → Truth

@@ -1,0 +1,31 @@
+-- The items along a path by the texts of names.
+use Rattle.std.proofs.Common.{◌≡◌, ◌∙◌, refl, sym, ap, ℕ, zero, suc, List, [], ◌∷◌, ◌++◌, map, reverse}
+use Rattle.std.specs.Prelude.{flat_map}
+use Rattle.std.proofs.lemmas.List.{map-append}
+use Rattle.spec_instructions.specs.Paths.{path_items}
+use Rattle.spec_instructions.specs.Fields.{visible, fields}
+use Rattle.mrs_arena.specs.Flat.{FlatNode}
+use Rattle.mrs_arena.specs.Paths.{ancestors}
+use Rattle.mrs_arena.specs.Nodes.{node_items, parents_of}
+use Rattle.mrs_arena.specs.Placed.{text_of, item_of, own_at, path_to}
+use Rattle.ast_eval.specs.Fields.{items_to, fields_by}
+
+own_items : (names : List (List ℕ)) (nodes : List FlatNode) (n : ℕ) → (own_at names nodes n).items ≡ map (item_of names) (node_items nodes n)
+own_items names [] n = refl
+own_items names (node ∷ nodes) zero = refl
+own_items names (node ∷ nodes) (suc n) = own_items names nodes n
+
+path_items_of : (names : List (List ℕ)) (nodes : List FlatNode) (path : List ℕ) → path_items (map (own_at names nodes) path) ≡ map (item_of names) (flat_map (node_items nodes) path)
+path_items_of names nodes [] = refl
+path_items_of names nodes (n ∷ path) =
+    ap (λ items. items ++ path_items (map (own_at names nodes) path)) (own_items names nodes n)
+    ∙ ap (λ rest. map (item_of names) (node_items nodes n) ++ rest) (path_items_of names nodes path)
+    ∙ sym (map-append (item_of names) (node_items nodes n) (flat_map (node_items nodes) path))
+
+-- the items along a path are those of the arena with texts for the numbers of names
+pub path_items_to : (names : List (List ℕ)) (nodes : List FlatNode) (n : ℕ) → path_items (path_to names nodes n) ≡ map (item_of names) (items_to nodes n)
+path_items_to names nodes n = path_items_of names nodes (reverse (ancestors (parents_of nodes) n))
+
+-- and so are the fields that are visible behind them
+pub fields_to : (names : List (List ℕ)) (nodes : List FlatNode) (n : ℕ) → fields_by (text_of names) (items_to nodes n) ≡ fields (path_to names nodes n)
+fields_to names nodes n = ap visible (sym (path_items_to names nodes n))

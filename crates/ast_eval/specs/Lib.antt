@@ -1,0 +1,9 @@
+pub mod BitNumber
+pub mod Called
+pub mod Choices
+pub mod ConfigView
+pub mod EnvView
+pub mod Fields
+pub mod Rows
+pub mod Views
+pub mod Worth
