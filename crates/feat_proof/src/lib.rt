@@ -19,6 +19,7 @@ mod literals;
 mod logs;
 mod printing;
 mod reading;
+mod room;
 mod scanning;
 mod steps;
 mod verdicts;

@@ -7,16 +7,17 @@ ghost use Rattle.spec_refutation.specs.Scans.{LiteralsEnd, HintsEnd};
 
 use crate::clauses::Clause;
 use crate::faults::NoMemory;
+use crate::room::spaces;
 use crate::scanning::{after, spaced_literal, spaced_number};
 use crate::steps::Step;
 use std::alloc::Global;
 
-/// The literals at the front, each after a space, and the bytes after them.
-fn literals(alloc: Global, text: &[u8], vars: u32) -> Result<(Clause, &[u8]), NoMemory>
+/// The literals at the front, each after a space, and the bytes after them. There is room for so many at once.
+fn literals(alloc: Global, text: &[u8], vars: u32, room: usize) -> Result<(Clause, &[u8]), NoMemory>
     requires { vars ≤ 2147483647 }
     ensures { IfOk result (λ r. LiteralsEnd vars text.now r.0 r.1.now) }
 {
-    let mut literals = Vec::new(alloc);
+    let mut literals = Vec::with_capacity(alloc, room)?;
     let mut rest = text;
     'literals: while let Some((literal, after)) = spaced_literal(rest, vars) {
         literals.push(literal)?;
@@ -29,7 +30,7 @@ fn literals(alloc: Global, text: &[u8], vars: u32) -> Result<(Clause, &[u8]), No
 fn hints(alloc: Global, text: &[u8], lines: u64) -> Result<(Vec<u64>, &[u8]), NoMemory>
     ensures { IfOk result (λ r. HintsEnd lines text.now r.0.items r.1.now) }
 {
-    let mut hints = Vec::new(alloc);
+    let mut hints = Vec::with_capacity(alloc, spaces(text))?;
     let mut rest = text;
     'hints: while let Some((hint, after)) = spaced_number(rest, 1, lines) {
         hints.push(hint)?;
@@ -52,7 +53,7 @@ pub fn clause_line(
     let Some(rest) = after(text, b'c') else {
         return Ok(None);
     };
-    let (clause, rest) = literals(alloc, rest, vars)?;
+    let (clause, rest) = literals(alloc, rest, vars, spaces(rest))?;
     let Some(rest) = after(rest, b'\n') else {
         return Ok(None);
     };
@@ -74,7 +75,8 @@ pub fn step_line(
     let Some(rest) = after(text, b's') else {
         return Ok(None);
     };
-    let (clause, rest) = literals(alloc, rest, vars)?;
+    // One of the spaces stands before the colon.
+    let (clause, rest) = literals(alloc, rest, vars, spaces(rest).saturating_sub(1))?;
     let Some(rest) = after(rest, b' ') else {
         return Ok(None);
     };

@@ -13,6 +13,7 @@ use crate::faults::{LogFault, NoMemory};
 use crate::formula::Cnf;
 use crate::lines::{clause_line, step_line};
 use crate::logs::Log;
+use crate::room;
 use crate::steps::Step;
 use std::alloc::Global;
 
@@ -26,7 +27,7 @@ fn clauses(
     requires { vars ≤ 2147483647 }
     ensures { IfOk result (λ r. ClausesEnd vars count text.now r.0.items r.1.now) }
 {
-    let mut clauses = Vec::new(alloc);
+    let mut clauses = Vec::with_capacity(alloc, room::lines(text, b'c', count))?;
     let mut rest = text;
     'lines: while (clauses.len() as u64) < count {
         let Some((clause, after)) = clause_line(alloc, rest, vars)? else {
@@ -49,7 +50,7 @@ fn steps(
     requires { vars ≤ 2147483647 }
     ensures { IfOk result (λ r. StepsEnd vars lines count text.now r.0.items r.1.now) }
 {
-    let mut steps = Vec::new(alloc);
+    let mut steps = Vec::with_capacity(alloc, room::lines(text, b's', count))?;
     let mut rest = text;
     'lines: while (steps.len() as u64) < count {
         let Some((step, after)) = step_line(alloc, rest, vars, lines)? else {

@@ -11,3 +11,4 @@ mod LabelLaws
 mod PartLaws
 mod KeptLaws
 pub mod GrownTrees
+pub mod ConditionLaws

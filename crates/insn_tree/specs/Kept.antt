@@ -7,6 +7,7 @@ use Rattle.mrs_arena.specs.Placed.{leaves_of, aliases_of}
 use Rattle.insn_tree.specs.Leaves.{leaf_names, is_shared, leaf_above}
 use Rattle.insn_tree.specs.Words.{merged_at}
 use Rattle.insn_tree.specs.Visible.{fields_at}
+use Rattle.insn_tree.specs.Conditions.{is_conditioned}
 use Rattle.insn_tree.specs.declared.leaf_table.LeafTable.{LeafTable}
 use Rattle.insn_tree.specs.declared.alias_table.AliasTable.{AliasTable}
 
@@ -17,6 +18,7 @@ pub record AreLeaves (nodes : List FlatNode) (table : LeafTable) : Type 0 where
   pub shared_are : table.shared.items ≡ map (is_shared (leaf_names nodes)) (leaf_names nodes)
   pub merged_are : map (option_map digits_of) table.merged.items ≡ map (merged_at nodes) (leaves_of nodes)
   pub widths : All (λ merged. IfSome merged (λ p. p.width ≡ 32)) table.merged.items
+  pub conditioned_are : table.conditioned.items ≡ map (is_conditioned nodes) (leaves_of nodes)
   pub fields_are : table.fields ≡ map (fields_at nodes) (leaves_of nodes)
 
 pub record AreAliases (nodes : List FlatNode) (table : AliasTable) : Type 0 where

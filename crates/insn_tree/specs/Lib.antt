@@ -1,10 +1,12 @@
 pub mod Upward
 pub mod Words
 pub mod Visible
+pub mod Conditions
 pub mod Views
 pub mod Parts
 pub mod Leaves
 pub mod Labels
 pub mod Trees
+pub mod Codes
 pub mod Kept
 pub mod Grown

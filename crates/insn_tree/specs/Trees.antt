@@ -1,5 +1,6 @@
 -- What a tree keeps, and the paths, labels and fields that it stands for by the texts of names.
 use Rattle.std.specs.Prelude.{nat_lt, ◌≡◌, ℕ, List, [], ◌∷◌, ◌++◌, ◌<◌, length, slice_get, slice_index_or, true, IfSome, decimal, bytes_eq, Option, Some, None, if◌then◌else◌}
+use Rattle.spec_expressions.specs.Expression.{ExprOf}
 use Rattle.spec_instructions.specs.Tree.{Own}
 use Rattle.spec_instructions.specs.Paths.{path_name, namesakes, labelled_leaf}
 use Rattle.spec_instructions.specs.Fields.{Field}
@@ -11,9 +12,10 @@ use Rattle.mrs_arena.specs.Placed.{text_of, paths_of, has_kind, leaves_of, AreHe
 use Rattle.insn_tree.specs.declared.field_range.FieldRange.{FieldRange}
 use Rattle.insn_tree.specs.declared.label_ref.LabelRef.{LabelRef}
 
--- the nodes of the arena, and the labels of the leaves, each with the leaf's number
+-- the nodes and expressions of the arena, and the labels of the leaves, each with the leaf's number
 pub record TreeParts : Type 0 where
   pub nodes : List FlatNode
+  pub exprs : List (ExprOf ℕ)
   pub labels : List (List ℕ × ℕ)
 
 -- the number that stands behind the first equal label

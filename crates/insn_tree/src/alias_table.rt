@@ -34,9 +34,9 @@ pub(crate) fn find_aliases(
     arena: &Arena,
     before: &[u32],
 ) -> Result<AliasTable, NoMemory>
-    requires { before.now ≡ map (leaves_before arena.now) (range_with_len 0 (length arena.now)) }
-    ensures nodes { IfOk result (λ a. map (λ n. n.0) a.nodes.items ≡ aliases_of arena.now) }
-    ensures leaves { IfOk result (λ a. map (λ l. l.0) a.leaves.items ≡ map (leaf_above arena.now) (aliases_of arena.now)) }
+    requires { before.now ≡ map (leaves_before arena.now.nodes) (range_with_len 0 (length arena.now.nodes)) }
+    ensures nodes { IfOk result (λ a. map (λ n. n.0) a.nodes.items ≡ aliases_of arena.now.nodes) }
+    ensures leaves { IfOk result (λ a. map (λ l. l.0) a.leaves.items ≡ map (leaf_above arena.now.nodes) (aliases_of arena.now.nodes)) }
 {
     let mut nodes = Vec::new(alloc);
     let mut leaves = Vec::new(alloc);

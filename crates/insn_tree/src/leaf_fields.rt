@@ -13,8 +13,8 @@ use std::alloc::Global;
 
 /// The fields that are visible at a node, from the root down.
 fn visible_fields(alloc: Global, arena: &Arena, n: NodeId) -> Result<Vec<FieldRange>, NoMemory>
-    requires { n.0 < length arena.now }
-    ensures { IfOk result (λ fields. map flat_field fields.items ≡ fields_at arena.now n.0) }
+    requires { n.0 < length arena.now.nodes }
+    ensures { IfOk result (λ fields. map flat_field fields.items ≡ fields_at arena.now.nodes n.0) }
 {
     let mut fields = Vec::new(alloc);
     for above in arena.path(n) {
@@ -30,8 +30,8 @@ pub(crate) fn leaf_fields(
     arena: &Arena,
     leaves: &[NodeId],
 ) -> Result<FieldTable, NoMemory>
-    requires { All (λ n. n.0 < length arena.now) leaves.now }
-    ensures { IfOk result (λ table. table ≡ map (λ n. fields_at arena.now n.0) leaves.now) }
+    requires { All (λ n. n.0 < length arena.now.nodes) leaves.now }
+    ensures { IfOk result (λ table. table ≡ map (λ n. fields_at arena.now.nodes n.0) leaves.now) }
 {
     let mut table = FieldTable::new(alloc);
     for leaf in leaves {

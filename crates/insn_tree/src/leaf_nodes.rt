@@ -20,9 +20,9 @@ pub(crate) struct LeafNodes {
 
 /// Finds the leaves of an arena, in one pass over its nodes.
 pub(crate) fn find_leaves(alloc: Global, arena: &Arena) -> Result<LeafNodes, NoMemory>
-    ensures nodes { IfOk result (λ l. map (λ n. n.0) l.nodes.items ≡ leaves_of arena.now) }
-    ensures formed { AreNodes arena.now }
-    ensures before { IfOk result (λ l. l.before.items ≡ map (leaves_before arena.now) (range_with_len 0 (length arena.now))) }
+    ensures nodes { IfOk result (λ l. map (λ n. n.0) l.nodes.items ≡ leaves_of arena.now.nodes) }
+    ensures formed { AreNodes arena.now.nodes }
+    ensures before { IfOk result (λ l. l.before.items ≡ map (leaves_before arena.now.nodes) (range_with_len 0 (length arena.now.nodes))) }
 {
     let mut nodes = Vec::new(alloc);
     let mut before = Vec::with_capacity(alloc, arena.node_count() as usize)?;
@@ -38,8 +38,8 @@ pub(crate) fn find_leaves(alloc: Global, arena: &Arena) -> Result<LeafNodes, NoM
 
 /// The name of a node.
 fn name_of(arena: &Arena, n: NodeId) -> NameId
-    requires { n.0 < length arena.now }
-    ensures { result.0 ≡ name_at arena.now n.0 }
+    requires { n.0 < length arena.now.nodes }
+    ensures { result.0 ≡ name_at arena.now.nodes n.0 }
 {
     arena.node(n).name()
 }
@@ -50,8 +50,8 @@ pub(crate) fn leaf_names(
     arena: &Arena,
     leaves: &[NodeId],
 ) -> Result<Vec<NameId>, NoMemory>
-    requires { All (λ n. n.0 < length arena.now) leaves.now }
-    ensures { IfOk result (λ names. map (λ name. name.0) names.items ≡ map (λ n. name_at arena.now n.0) leaves.now) }
+    requires { All (λ n. n.0 < length arena.now.nodes) leaves.now }
+    ensures { IfOk result (λ names. map (λ name. name.0) names.items ≡ map (λ n. name_at arena.now.nodes n.0) leaves.now) }
 {
     let mut names = Vec::with_capacity(alloc, leaves.len())?;
     for leaf in leaves {

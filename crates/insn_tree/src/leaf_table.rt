@@ -7,6 +7,7 @@ ghost use Rattle.mrs_arena.specs.Placed.{leaves_of, AreHeld};
 ghost use Rattle.insn_tree.specs.Kept.{AreLeaves};
 
 use crate::field_table::FieldTable;
+use crate::leaf_conditions::conditioned_leaves;
 use crate::leaf_fields::leaf_fields;
 use crate::leaf_nodes::leaf_names;
 use crate::leaf_word::merged_patterns;
@@ -17,13 +18,15 @@ use mrs_arena::{Arena, NodeId};
 use mrs_names::{NameId, Names};
 use std::alloc::Global;
 
-/// For each leaf its node and name, whether another leaf has the name, what its path fixes, and its visible fields.
+/// For each leaf its node and name, whether another leaf has the name, what its path fixes, whether a node on its path
+/// has a condition, and its visible fields.
 #[derive(Drop)]
 pub(crate) struct LeafTable {
     pub nodes: Vec<NodeId>,
     pub names: Vec<NameId>,
     pub shared: Vec<bool>,
     pub merged: Vec<Option<Pattern>>,
+    pub conditioned: Vec<bool>,
     pub fields: FieldTable,
 }
 
@@ -34,21 +37,23 @@ pub(crate) fn describe_leaves(
     names: &Names,
     nodes: Vec<NodeId>,
 ) -> Result<LeafTable, NoMemory>
-    requires leaves { map (λ n. n.0) nodes.items ≡ leaves_of arena.now }
-    requires formed { AreNodes arena.now }
-    requires held { AreHeld names.now arena.now }
-    ensures leaves { IfOk result (AreLeaves arena.now) }
+    requires leaves { map (λ n. n.0) nodes.items ≡ leaves_of arena.now.nodes }
+    requires formed { AreNodes arena.now.nodes }
+    requires held { AreHeld names.now arena.now.nodes }
+    ensures leaves { IfOk result (AreLeaves arena.now.nodes) }
     ensures names { OnOk result (AreNames names.now) }
 {
     let leaf_names = leaf_names(alloc, arena, &nodes)?;
     let shared = find_shared(alloc, &leaf_names, names.len())?;
     let merged = merged_patterns(alloc, arena, &nodes)?;
     let fields = leaf_fields(alloc, arena, &nodes)?;
+    let conditioned = conditioned_leaves(alloc, arena, &nodes)?;
     Ok(LeafTable {
         nodes,
         names: leaf_names,
         shared,
         merged,
+        conditioned,
         fields,
     })
 }

@@ -19,8 +19,8 @@ const FREE: Pattern = Pattern {
 
 /// What the items along the path to a node fix; `None` where two of them clash.
 fn merged_pattern(arena: &Arena, n: NodeId) -> Option<Pattern>
-    requires { n.0 < length arena.now }
-    ensures digits { option_map digits_of result ≡ merged_at arena.now n.0 }
+    requires { n.0 < length arena.now.nodes }
+    ensures digits { option_map digits_of result ≡ merged_at arena.now.nodes n.0 }
     ensures width { IfSome result (λ p. p.width ≡ 32) }
 {
     let mut merged = Some(FREE);
@@ -36,8 +36,8 @@ pub(crate) fn merged_patterns(
     arena: &Arena,
     leaves: &[NodeId],
 ) -> Result<Vec<Option<Pattern>>, NoMemory>
-    requires { All (λ n. n.0 < length arena.now) leaves.now }
-    ensures digits { IfOk result (λ v. map (option_map digits_of) v.items ≡ map (λ n. merged_at arena.now n.0) leaves.now) }
+    requires { All (λ n. n.0 < length arena.now.nodes) leaves.now }
+    ensures digits { IfOk result (λ v. map (option_map digits_of) v.items ≡ map (λ n. merged_at arena.now.nodes n.0) leaves.now) }
     ensures widths { IfOk result (λ v. All (λ merged. IfSome merged (λ p. p.width ≡ 32)) v.items) }
 {
     let mut patterns = Vec::with_capacity(alloc, leaves.len())?;

@@ -10,6 +10,7 @@ mod item_word;
 mod label_ref;
 mod label_table;
 mod labels;
+mod leaf_conditions;
 mod leaf_fields;
 mod leaf_id;
 mod leaf_nodes;

@@ -28,13 +28,16 @@ pub struct Tree {
 
 impl Model for Tree {
     ghost use Rattle.insn_tree.specs.Trees.{TreeParts};
+    ghost use Rattle.insn_tree.specs.Codes.{tree_code};
     ghost use Rattle.insn_tree.specs.Kept.{AreLeaves, AreAliases};
 
     ghost Value = { TreeParts };
 
-    ghost view = { λ t. record { nodes = t.arena; labels = t.labels } };
+    ghost coded = { tree_code };
 
-    ghost invariant = { λ t. AreLeaves t.arena t.leaves × AreAliases t.arena t.aliases };
+    ghost view = { λ t. record { nodes = t.arena.nodes; exprs = t.arena.exprs; labels = t.labels } };
+
+    ghost invariant = { λ t. AreLeaves t.arena.nodes t.leaves × AreAliases t.arena.nodes t.aliases };
 }
 
 impl Tree {
@@ -49,8 +52,9 @@ impl Tree {
 
     /// The tree of an arena, the texts of whose names are held by `names`.
     pub fn new(alloc: Global, arena: Arena, names: &Names) -> Result<Tree, NoMemory>
-        requires { AreHeld names.now arena }
-        ensures nodes { IfOk result (λ t. t.nodes ≡ arena) }
+        requires { AreHeld names.now arena.nodes }
+        ensures nodes { IfOk result (λ t. t.nodes ≡ arena.nodes) }
+        ensures exprs { IfOk result (λ t. t.exprs ≡ arena.exprs) }
         ensures made { IfOk result (λ t. IsOf names.now t) }
     {
         let leaves = find_leaves(alloc, &arena)?;
@@ -68,7 +72,7 @@ impl Tree {
 
     /// The arena of the nodes.
     pub fn arena(&self) -> &Arena
-        ensures { result.now ≡ self.now.nodes }
+        ensures { result.now ≡ record { nodes = self.now.nodes; exprs = self.now.exprs } }
     {
         &self.arena
     }

@@ -11,7 +11,7 @@ use Rattle.mrs_arena.specs.declared.expr_id.ExprId.{ExprId}
 use Rattle.mrs_arena.specs.declared.expr.ExprList.{ExprList}
 use Rattle.mrs_arena.specs.declared.expr.Expr.{Expr}
 use Rattle.mrs_arena.specs.declared.expr.Expr.TheVariants.{Truth, Integer, Bits, Name, Not, Binary, Call, Set, Join, Slice, Other}
-use Rattle.mrs_arena.specs.Expressions.{Expressions, expr_at, op_of, function_of, listed, list_in, list_of, made, IsList, HasParts, with_expr}
+use Rattle.mrs_arena.specs.Expressions.{Expressions, expr_at, op_of, function_by, itself, listed, list_in, list_of, made, IsList, HasParts, with_expr}
 use Rattle.mrs_arena.specs.Table.{nested_from, nested, numbers, IsListBelow, IsBelow, AreBelow, AreMade}
 
 -- ---- one expression
@@ -32,7 +32,7 @@ made-agree at other n same parts (Bits p) below = refl
 made-agree at other n same parts (Name name) below = refl
 made-agree at other n same parts (Not a) below = ap expression.Not (same a.0 below)
 made-agree at other n same parts (Binary op a b) below = ap₂ (expression.Binary (op_of op)) (same a.0 below.0) (same b.0 below.1)
-made-agree at other n same parts (Call f args) below = ap (expression.Call (function_of f)) (list_in-agree at other n same parts args below)
+made-agree at other n same parts (Call f args) below = ap (expression.Call (function_by itself f)) (list_in-agree at other n same parts args below)
 made-agree at other n same parts (Set members) below = ap expression.Set (list_in-agree at other n same parts members below)
 made-agree at other n same parts (Join joined) below = ap expression.Join (list_in-agree at other n same parts joined below)
 made-agree at other n same parts (Slice bits high low) below =
@@ -56,7 +56,7 @@ made-more at n parts more (Bits p) below = refl
 made-more at n parts more (Name name) below = refl
 made-more at n parts more (Not a) below = refl
 made-more at n parts more (Binary op a b) below = refl
-made-more at n parts more (Call f args) below = ap (expression.Call (function_of f)) (list_in-more at parts more args below.0)
+made-more at n parts more (Call f args) below = ap (expression.Call (function_by itself f)) (list_in-more at parts more args below.0)
 made-more at n parts more (Set members) below = ap expression.Set (list_in-more at parts more members below.0)
 made-more at n parts more (Join joined) below = ap expression.Join (list_in-more at parts more joined below.0)
 made-more at n parts more (Slice bits high low) below = refl

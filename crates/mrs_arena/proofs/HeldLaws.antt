@@ -2,13 +2,13 @@
 use Rattle.std.proofs.Common.{◌≡◌, ◌∙◌, ap, ap₂, refl, ℕ, ◌+◌, ◌<◌, ◌≤◌, Bool, cond, List, [], ◌∷◌, ◌++◌, length, map, get_or, Option, Some, None, is_some, option_map, IfSome, All, arith, length-append}
 use Rattle.std.specs.Prelude.{count_by, fold}
 use Rattle.std.proofs.lemmas.List.{get_or_append_left}
-use Rattle.std.proofs.lemmas.List.Elements.{All-nil, All-cons, All-head, All-tail, All-push}
+use Rattle.std.proofs.lemmas.List.Elements.{All-nil, All-cons, All-head, All-tail, All-push, All-weaker}
 use Rattle.mrs_names.specs.Texts.{IsExtended}
 use Rattle.spec_expressions.specs.Expression.{FunctionOf, UInt, IsZero, IsOnes, IsFeatureImplemented, Named, ExprOf, Boolean, Integer, Bits, Name, Not, Binary, Call, Set, Join, Slice, Other, ExprsOf, no_exprs, expr, function_with_names, all_with_names, FunctionHasNames, EachName, EachNameOfAll}
 use Rattle.mrs_arena.specs.declared.kind.Kind.{Kind}
 use Rattle.mrs_arena.specs.Flat.{FlatItem, FlatNode, with_text}
 use Rattle.mrs_arena.specs.Nodes.{at_last, parents_of, new_node, with_item, with_condition, with_preferred}
-use Rattle.mrs_arena.specs.Placed.{text_of, item_of, expr_of, own_of_flat, placed_node, IsHeldItem, IsHeldExpr, IsHeldNode, AreHeld}
+use Rattle.mrs_arena.specs.Placed.{text_of, item_of, expr_of, own_of_flat, placed_node, IsHeldItem, IsHeldExpr, IsHeldNode, AreHeld, AreHeldExprs}
 
 -- ---- more names
 
@@ -79,6 +79,14 @@ all_placed-more names more (node ∷ nodes) held =
 pub placed-extended : (old new : List (List ℕ)) (nodes : List FlatNode) → IsExtended old new → AreHeld old nodes → map (placed_node new) nodes ≡ map (placed_node old) nodes
 placed-extended old new nodes extended held = ap (λ names. map (placed_node names) nodes) extended.whole ∙ all_placed-more old extended.more nodes held
 
+all_exprs-more : (names more : List (List ℕ)) (exprs : List (ExprOf ℕ)) → AreHeldExprs names exprs → map (expr_of (names ++ more)) exprs ≡ map (expr_of names) exprs
+all_exprs-more names more [] held = refl
+all_exprs-more names more (e ∷ exprs) held =
+    ap₂ (λ e es. e ∷ es) (expr_of-more names more e (All-head (EachName (λ id. id < length names)) e exprs held)) (all_exprs-more names more exprs (All-tail (EachName (λ id. id < length names)) e exprs held))
+
+pub exprs-extended : (old new : List (List ℕ)) (exprs : List (ExprOf ℕ)) → IsExtended old new → AreHeldExprs old exprs → map (expr_of new) exprs ≡ map (expr_of old) exprs
+exprs-extended old new exprs extended held = ap (λ names. map (expr_of names) exprs) extended.whole ∙ all_exprs-more old extended.more exprs held
+
 IsHeldItem-longer : (old new : List (List ℕ)) (name : Option ℕ) → length old ≤ length new → IfSome name (λ id. id < length old) → IfSome name (λ id. id < length new)
 IsHeldItem-longer old new None longer held = tt
 IsHeldItem-longer old new (Some id) longer held = omega arith
@@ -124,6 +132,11 @@ pub AreHeld-extended : (old new : List (List ℕ)) (nodes : List FlatNode) → I
 AreHeld-extended old new nodes extended held =
     let longer : length old ≤ length new = omega (arith, ap length extended.whole, length-append old extended.more) in
     λ k d h. IsHeldNode-longer old new (get_or nodes k d) longer (held k d h)
+
+pub AreHeldExprs-extended : (old new : List (List ℕ)) (exprs : List (ExprOf ℕ)) → IsExtended old new → AreHeldExprs old exprs → AreHeldExprs new exprs
+AreHeldExprs-extended old new exprs extended held =
+    let longer : length old ≤ length new = omega (arith, ap length extended.whole, length-append old extended.more) in
+    All-weaker (EachName (λ id. id < length old)) (EachName (λ id. id < length new)) (λ e is. EachName-longer (length old) (length new) e longer is) exprs held
 
 -- ---- more nodes and items
 

@@ -6,6 +6,7 @@ pub mod LastOneLaws
 pub mod NodeLaws
 pub mod ExprLaws
 pub mod HeldLaws
+pub mod TextLaws
 pub mod PutLaws
 pub mod FormedLaws
 pub mod ItemLaws

@@ -4,10 +4,13 @@ use Rattle.std.specs.Coded.{Coded, code_by, coded_ℕ, coded_bool, coded_list, c
 use Rattle.spec_bits.specs.Pattern.{Digit}
 use Rattle.spec_expressions.specs.Expression.{ExprOf}
 use Rattle.spec_expressions.specs.Codes.{digit_code, expr_code}
+use Rattle.spec_instructions.specs.Tree.{Own}
+use Rattle.spec_instructions.specs.Codes.{own_code}
 use Rattle.mrs_arena.specs.declared.kind.Kind.{Kind}
 use Rattle.mrs_arena.specs.declared.kind.Kind.TheVariants.{Set, Group, Leaf, Alias}
 use Rattle.mrs_arena.specs.Flat.{FlatItem, FlatNode, ArenaParts, Built}
 use Rattle.mrs_arena.specs.Expressions.{Expressions}
+use Rattle.mrs_arena.specs.Placed.{Placed}
 
 abbrev kind_number : Kind → ℕ
 kind_number Set = 0
@@ -42,6 +45,9 @@ flat_node_code =
     (λ node. (node.kind, (node.name, (node.parent, (node.items, (node.condition, node.preferred))))))
     (λ p. record { kind = p.0; name = p.1.0; parent = p.1.1.0; items = p.1.1.1.0; condition = p.1.1.1.1.0; preferred = p.1.1.1.1.1 })
     (λ _. refl)
+
+abbrev pub placed_code : Coded Placed
+placed_code = code_by (Option ℕ × Own) (coded× (coded_option coded_ℕ) own_code) (λ p. (p.parent, p.own)) (λ p. record { parent = p.0; own = p.1 }) (λ _. refl)
 
 abbrev pub expressions_code : Coded Expressions
 expressions_code =

@@ -21,7 +21,7 @@ pub record Expressions : Type 0 where
   pub parts : List ℕ
 
 -- the expression of a number
-abbrev pub expr_at : List (ExprOf ℕ) → ℕ → ExprOf ℕ
+abbrev pub expr_at : {N : Type 0} → List (ExprOf N) → ℕ → ExprOf N
 expr_at exprs k = slice_index_or exprs k expression.Other
 
 abbrev pub op_of : Op → expression.Op
@@ -37,32 +37,39 @@ op_of Gt = expression.Gt
 op_of Ge = expression.Ge
 op_of Member = expression.Member
 
--- a function's name is a number
-abbrev pub function_of : Func → FunctionOf ℕ
-function_of UInt = expression.UInt
-function_of IsZero = expression.IsZero
-function_of IsOnes = expression.IsOnes
-function_of IsFeatureImplemented = expression.IsFeatureImplemented
-function_of (Named name) = expression.Named name.0
+-- a function, by what the number of a name stands for
+abbrev pub function_by : {N : Type 0} → (ℕ → N) → Func → FunctionOf N
+function_by named UInt = expression.UInt
+function_by named IsZero = expression.IsZero
+function_by named IsOnes = expression.IsOnes
+function_by named IsFeatureImplemented = expression.IsFeatureImplemented
+function_by named (Named name) = expression.Named (named name.0)
+
+-- where names are numbers
+abbrev pub itself : ℕ → ℕ
+itself n = n
 
 -- ---- as they are read back
 
-abbrev pub list_of : (ℕ → ExprOf ℕ) → List ExprId → ExprsOf ℕ
+abbrev pub list_of : {N : Type 0} → (ℕ → ExprOf N) → List ExprId → ExprsOf N
 list_of at list = exprs_of (map (λ part. at part.0) list)
 
--- an expression whose parts stand for these: one layer
+-- an expression whose names and parts stand for these: one layer
+abbrev pub layer_by : {N : Type 0} → (ℕ → N) → (ℕ → ExprOf N) → ExprRef → ExprOf N
+layer_by named at (ref.Truth b) = expression.Boolean b
+layer_by named at (ref.Integer n) = expression.Integer n
+layer_by named at (ref.Bits p) = expression.Bits (digits_of p)
+layer_by named at (ref.Name name) = expression.Name (named name.0)
+layer_by named at (ref.Not a) = expression.Not (at a.0)
+layer_by named at (ref.Binary op a b) = expression.Binary (op_of op) (at a.0) (at b.0)
+layer_by named at (ref.Call f args) = expression.Call (function_by named f) (list_of at args.now)
+layer_by named at (ref.Set members) = expression.Set (list_of at members.now)
+layer_by named at (ref.Join parts) = expression.Join (list_of at parts.now)
+layer_by named at (ref.Slice bits high low) = expression.Slice (at bits.0) (at high.0) (at low.0)
+layer_by named at ref.Other = expression.Other
+
 abbrev pub layer : (ℕ → ExprOf ℕ) → ExprRef → ExprOf ℕ
-layer at (ref.Truth b) = expression.Boolean b
-layer at (ref.Integer n) = expression.Integer n
-layer at (ref.Bits p) = expression.Bits (digits_of p)
-layer at (ref.Name name) = expression.Name name.0
-layer at (ref.Not a) = expression.Not (at a.0)
-layer at (ref.Binary op a b) = expression.Binary (op_of op) (at a.0) (at b.0)
-layer at (ref.Call f args) = expression.Call (function_of f) (list_of at args.now)
-layer at (ref.Set members) = expression.Set (list_of at members.now)
-layer at (ref.Join parts) = expression.Join (list_of at parts.now)
-layer at (ref.Slice bits high low) = expression.Slice (at bits.0) (at high.0) (at low.0)
-layer at ref.Other = expression.Other
+layer at e = layer_by itself at e
 
 -- the parts have smaller numbers
 abbrev pub Below : ℕ → ExprRef → Type 0
@@ -84,22 +91,25 @@ Below n ref.Other = ⊤
 abbrev pub listed : List ℕ → ExprList → List ℕ
 listed parts list = slice_range parts list.from (list.from + list.len)
 
-abbrev pub list_in : (ℕ → ExprOf ℕ) → List ℕ → ExprList → ExprsOf ℕ
+abbrev pub list_in : {N : Type 0} → (ℕ → ExprOf N) → List ℕ → ExprList → ExprsOf N
 list_in at parts list = exprs_of (map at (listed parts list))
 
--- an expression whose parts stand for these, with the parts of lists
+-- an expression whose names and parts stand for these, with the parts of lists
+abbrev pub made_by : {N : Type 0} → (ℕ → N) → (ℕ → ExprOf N) → List ℕ → Expr → ExprOf N
+made_by named at all (Truth b) = expression.Boolean b
+made_by named at all (Integer n) = expression.Integer n
+made_by named at all (Bits p) = expression.Bits (digits_of p)
+made_by named at all (Name name) = expression.Name (named name.0)
+made_by named at all (Not a) = expression.Not (at a.0)
+made_by named at all (Binary op a b) = expression.Binary (op_of op) (at a.0) (at b.0)
+made_by named at all (Call f args) = expression.Call (function_by named f) (list_in at all args)
+made_by named at all (Set members) = expression.Set (list_in at all members)
+made_by named at all (Join parts) = expression.Join (list_in at all parts)
+made_by named at all (Slice bits high low) = expression.Slice (at bits.0) (at high.0) (at low.0)
+made_by named at all Other = expression.Other
+
 abbrev pub made : (ℕ → ExprOf ℕ) → List ℕ → Expr → ExprOf ℕ
-made at all (Truth b) = expression.Boolean b
-made at all (Integer n) = expression.Integer n
-made at all (Bits p) = expression.Bits (digits_of p)
-made at all (Name name) = expression.Name name.0
-made at all (Not a) = expression.Not (at a.0)
-made at all (Binary op a b) = expression.Binary (op_of op) (at a.0) (at b.0)
-made at all (Call f args) = expression.Call (function_of f) (list_in at all args)
-made at all (Set members) = expression.Set (list_in at all members)
-made at all (Join parts) = expression.Join (list_in at all parts)
-made at all (Slice bits high low) = expression.Slice (at bits.0) (at high.0) (at low.0)
-made at all Other = expression.Other
+made at all e = made_by itself at all e
 
 -- a list is one of those that were put
 abbrev pub IsList : List ℕ → ExprList → Type 0
@@ -118,6 +128,27 @@ HasParts count all (Set members) = IsList all members
 HasParts count all (Join parts) = IsList all parts
 HasParts count all (Slice bits high low) = (bits.0 < count) × ((high.0 < count) × (low.0 < count))
 HasParts count all Other = ⊤
+
+-- the names in an expression itself are among so many
+abbrev pub FunctionHasName : ℕ → Func → Type 0
+FunctionHasName count UInt = ⊤
+FunctionHasName count IsZero = ⊤
+FunctionHasName count IsOnes = ⊤
+FunctionHasName count IsFeatureImplemented = ⊤
+FunctionHasName count (Named name) = name.0 < count
+
+abbrev pub HasName : ℕ → Expr → Type 0
+HasName count (Truth b) = ⊤
+HasName count (Integer n) = ⊤
+HasName count (Bits p) = ⊤
+HasName count (Name name) = name.0 < count
+HasName count (Not a) = ⊤
+HasName count (Binary op a b) = ⊤
+HasName count (Call f args) = FunctionHasName count f
+HasName count (Set members) = ⊤
+HasName count (Join parts) = ⊤
+HasName count (Slice bits high low) = ⊤
+HasName count Other = ⊤
 
 -- one more expression behind those that were put, and one more list behind the parts of others
 abbrev pub with_expr : Expr → List ℕ → List (ExprOf ℕ) → List (ExprOf ℕ)

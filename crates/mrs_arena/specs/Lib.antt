@@ -2,11 +2,11 @@ pub mod Flat
 pub mod Expressions
 pub mod Views
 pub mod Table
-pub mod Codes
 pub mod Paths
 pub mod Nodes
 pub mod Limits
 pub mod Formed
 pub mod Inside
 pub mod Placed
+pub mod Codes
 pub mod Release

@@ -104,5 +104,9 @@ pub record IsHeldNode (names : List (List ℕ)) (n : FlatNode) : Type 0 where
   pub condition : IsHeldExpr names n.condition
   pub preferred : IsHeldExpr names n.preferred
 
+-- so is each name in an expression
+abbrev pub AreHeldExprs : List (List ℕ) → List (ExprOf ℕ) → Type 0
+AreHeldExprs names exprs = All (EachName (λ id. id < length names)) exprs
+
 abbrev pub AreHeld : List (List ℕ) → List FlatNode → Type 0
 AreHeld names nodes = All (IsHeldNode names) nodes

@@ -47,7 +47,7 @@ impl Model for ArenaBuilder {
 }
 
 impl ArenaBuilder {
-    ghost use Rattle.std.specs.Prelude.{◌≡◌, ◌<◌, ◌↔◌, [], ◌∷◌, ◌++◌, length, IsTrue, nat_le, All, IfOk, OnOk, OnErr, option_map, true, false};
+    ghost use Rattle.std.specs.Prelude.{◌≡◌, ◌<◌, ◌↔◌, [], ◌∷◌, ◌++◌, ◌≤◌, length, IsTrue, nat_le, All, IfOk, OnOk, OnErr, option_map, true, false};
     ghost use Rattle.mrs_arena.specs.Paths.{IsPlace};
     ghost use Rattle.mrs_arena.specs.Views.{flat_item};
     ghost use Rattle.mrs_arena.specs.Nodes.{parents_of, last_items, new_node, with_item, with_condition, with_preferred, is_taken};

@@ -15,6 +15,6 @@ abbrev pub release_of : Release → spec.Release
 release_of release = record { insns = release.insns.now; isa = release.isa.now }
 
 abbrev pub asked_of : Request → spec.Request
-asked_of (code.List release) = spec.AskList (release_of release)
+asked_of (code.List release on) = spec.AskList (release_of release) on
 asked_of (code.Leaf release label) = spec.AskLeaf (release_of release) label.now
 asked_of (code.Proof log) = spec.AskProof log.now

@@ -1,9 +1,10 @@
 //! The commands: the word that says each, its keys, and what it asks for.
 ghost use Rattle.std.specs.Prelude.{◌≡◌, map, option_map};
-ghost use Rattle.spec_command.specs.Commands.{release};
-ghost use Rattle.spec_command.specs.Request.{is_one_of, command_named};
+ghost use Rattle.spec_command.specs.Commands.{release, is_one_of};
+ghost use Rattle.spec_command.specs.Request.{command_named};
 ghost use Rattle.mrs_command.specs.Commands.{command_of, release_of, asked_of};
 
+use crate::names::Names;
 use crate::settings::Settings;
 
 /// A set of instructions: the name of its document, and its own.
@@ -14,11 +15,12 @@ pub struct Release<'a> {
 }
 
 /// What the words of a command line ask for: a command, and what its keys say.
-#[derive(Clone, Copy, PartialEq, Eq, Debug)]
+#[derive(Debug, Drop)]
 pub enum Request<'a> {
-    /// `list` lists the words of a stream.
+    /// `list` lists the words of a stream, under the features that are on, of which there are at most 4,096.
     List {
         release: Release<'a>,
+        on: Names<'a>,
     },
     /// `leaf` shows the leaf of that label.
     Leaf {
@@ -57,7 +59,7 @@ impl Verb {
         ensures { map (λ key. key.now) result.now ≡ (command_of self).asks.keys }
     {
         match self {
-            Verb::List => &["insns", "isa"],
+            Verb::List => &["insns", "isa", "on"],
             Verb::Leaf => &["insns", "isa", "label"],
             Verb::Proof => &["log"],
         }
@@ -77,7 +79,8 @@ impl Verb {
         match self {
             Verb::List => {
                 let release = release_in(settings)?;
-                Some(Request::List { release })
+                let on = settings.names_on();
+                Some(Request::List { release, on })
             }
             Verb::Leaf => {
                 let release = release_in(settings)?;
@@ -105,7 +108,7 @@ fn release_in<'a>(settings: &Settings<'a>) -> Option<Release<'a>>
 }
 
 #[tactic(auto, using(crate::proofs::Keys::among_keys))]
-fn is_among(keys: &[&str], key: &str) -> bool
+pub(crate) fn is_among(keys: &[&str], key: &str) -> bool
     ensures { result ≡ is_one_of (map (λ one. one.now) keys.now) key.now }
 {
     keys.contains(&key)

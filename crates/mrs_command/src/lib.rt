@@ -4,6 +4,8 @@
 
 mod bad_word;
 mod commands;
+mod names;
+mod pins;
 mod reading;
 mod settings;
 #[cfg(test)]
@@ -11,4 +13,5 @@ mod tests;
 
 pub use bad_word::BadWord;
 pub use commands::{Release, Request};
+pub use names::Names;
 pub use reading::read_request;

@@ -1,5 +1,5 @@
 //! Reads the words of a command line.
-ghost use Rattle.std.specs.Prelude.{◌≡◌, ◌<◌, length, take, map, string_bytes, IfSome, IfNone, IsTrue, MatchResult, Ok, Err};
+ghost use Rattle.std.specs.Prelude.{◌≡◌, ◌<◌, length, take, map, string_bytes, count_by, IfSome, IfNone, IsTrue, MatchResult, Ok, Err};
 ghost use Rattle.std.specs.List.{list_all};
 ghost use Rattle.spec_command.specs.Setting.{setting_in};
 ghost use Rattle.spec_command.specs.Request as spec;
@@ -8,13 +8,15 @@ ghost use Rattle.mrs_command.specs.Commands.{command_of, asked_of};
 
 use crate::bad_word::BadWord;
 use crate::commands::{Request, Verb};
+use crate::pins::{MOST_PINS, is_pin, is_pin_key, takes};
 use crate::settings::Settings;
 
 /// What the words of a command line ask for, or the place of the first bad word.
 ///
 /// The first word is the command, and each other word is `key=value`, split at its first `=`. Bad words are an unknown
-/// command, a word without a `=`, a key that the command does not have, a key that an earlier word has, and an empty
-/// value. A missing command is place 0. Where no word is bad, a missing key is refused at the number of words.
+/// command, a word without a `=`, a key that the command does not have, a key that an earlier word has, an empty
+/// value, and of `on`, which several words may have, a value that is no name, and all behind 4,096 of them. A missing
+/// command is place 0. Where no word is bad, a missing key is refused at the number of words.
 pub fn read_request(words: &[String]) -> Result<Request<'_>, BadWord>
     ensures { MatchResult result
         (λ asked. spec.request (map string_bytes words.now) ≡ Ok (asked_of asked))
@@ -45,21 +47,40 @@ fn first_bad(verb: Verb, words: &[String]) -> Option<usize>
     ensures within { IfSome result (λ place. place < length words.now) }
     ensures settings { IfNone result (IsTrue (list_all is_setting (map string_bytes words.now))) }
 {
+    let mut pins = 0;
     for (place, word) in words.iter().enumerate() {
-        if !is_good(verb, &words[..place], word.as_str()) {
+        let word = word.as_str();
+        if !is_good(verb, &words[..place], pins, word) {
             return Some(place);
+        }
+        if is_pin(word) {
+            pins += 1;
         }
     }
     None
 }
 
-/// Whether a word is good behind earlier words, of which each has a `=`.
-fn is_good(verb: Verb, earlier: &[String], word: &str) -> bool
-    requires { IsTrue (list_all is_setting (map string_bytes earlier.now)) }
+/// Whether a word is good behind earlier words, of which each has a `=` and `pins` are pins.
+fn is_good(verb: Verb, earlier: &[String], pins: usize, word: &str) -> bool
+    requires settings { IsTrue (list_all is_setting (map string_bytes earlier.now)) }
+    requires pins { pins ≡ count_by spec.is_pin (map string_bytes earlier.now) }
     ensures { result ≡ spec.is_good (command_of verb).asks.keys (map string_bytes earlier.now) (setting_in word.now) }
 {
     let Some((key, value)) = word.split_once('=') else {
         return false;
     };
-    !value.is_empty() && verb.has_key(key) && Settings::new(earlier).value(key).is_none()
+    takes(key, value) && !value.is_empty() && verb.has_key(key) && has_room(earlier, pins, key)
+}
+
+/// Whether there is room for a key behind earlier words, of which each has a `=` and `pins` are pins.
+fn has_room(earlier: &[String], pins: usize, key: &str) -> bool
+    requires settings { IsTrue (list_all is_setting (map string_bytes earlier.now)) }
+    requires pins { pins ≡ count_by spec.is_pin (map string_bytes earlier.now) }
+    ensures { result ≡ spec.has_room (map string_bytes earlier.now) key.now }
+{
+    if is_pin_key(key) {
+        pins < MOST_PINS
+    } else {
+        Settings::new(earlier).value(key).is_none()
+    }
 }

@@ -1,8 +1,8 @@
 -- The names along a path are those of the parent's path and then the node's.
 use Rattle.std.proofs.Common.{◌≡◌, ◌∙◌, sym, ap, refl, ℕ, ◌<◌, List, [], ◌∷◌, ◌++◌, length, map, reverse, get_or, Option, Some, None, IfSome, slice_get, append_assoc, append-nil, subst}
-use Rattle.std.specs.Prelude.{flat_map}
-use Rattle.std.proofs.lemmas.Option.{slice_get_within, get_or_from_slice_get}
-use Rattle.std.proofs.lemmas.List.{map-append, get_or-map}
+use Rattle.std.specs.Prelude.{flat_map, option_map}
+use Rattle.std.proofs.lemmas.Option.{slice_get_within, get_or_from_slice_get, slice_get-map}
+use Rattle.std.proofs.lemmas.List.{map-append}
 use Rattle.std.proofs.lemmas.Grind.{flat_map-append, reverse_onto}
 use Rattle.mrs_arena.specs.Flat.{FlatNode}
 use Rattle.mrs_arena.specs.Nodes.{parents_of}
@@ -34,19 +34,16 @@ one_more names nodes n up =
     ∙ flat_map-append (λ own. 32 ∷ own.name) (map (own_at names nodes) (reverse up)) (own_at names nodes n ∷ [])
     ∙ ap (λ end. names_along names nodes up ++ end) (append-nil (name_in names nodes n))
 
-get_or-mapped : {X Y : Type 0} (f : X → Y) (xs : List X) (n : ℕ) (x : X) (d : Y) → slice_get xs n ≡ Some x → get_or (map f xs) n d ≡ f x
-get_or-mapped f xs n x d at = get_or-map f xs n x d (slice_get_within xs n x at) ∙ ap f (get_or_from_slice_get xs n x x at)
-
 pub names_down-step : (names : List (List ℕ)) (nodes : List FlatNode) (n : ℕ) (node : FlatNode) → slice_get nodes n ≡ Some node → IfSome node.parent (λ p. p < n)
     → names_down names nodes n ≡ names_to names nodes node.parent ++ 32 ∷ text_of names node.name
 names_down-step names nodes n node at before =
     let within : n < length (parents_of nodes) = subst (λ l. n < l) (sym (length-parents_of nodes)) (slice_get_within nodes n node at) in
-    let parent : get_or (parents_of nodes) n None ≡ node.parent = get_or-mapped (λ x. x.parent) nodes n node None at in
+    let parent : get_or (parents_of nodes) n None ≡ node.parent = get_or_from_slice_get (parents_of nodes) n node.parent None (slice_get-map (λ x. x.parent) nodes n ∙ ap (option_map (λ x. x.parent)) at) in
     ap (names_along names nodes) (ancestors-step (parents_of nodes) n within (λ p is. subst (λ o. IfSome o (λ q. q < n)) (sym parent ∙ is) before))
     ∙ one_more names nodes n (path_up (parents_of nodes) (get_or (parents_of nodes) n None))
     ∙ ap (λ o. names_along names nodes (path_up (parents_of nodes) o) ++ name_in names nodes n) parent
     ∙ ap (λ front. front ++ name_in names nodes n) (above names nodes node.parent)
-    ∙ ap (λ own. names_to names nodes node.parent ++ 32 ∷ own.name) (get_or-mapped (own_of_flat names) nodes n node no_own at)
+    ∙ ap (λ own. names_to names nodes node.parent ++ 32 ∷ own.name) (get_or_from_slice_get (map (own_of_flat names) nodes) n (own_of_flat names node) no_own (slice_get-map (own_of_flat names) nodes n ∙ ap (option_map (own_of_flat names)) at))
 
 -- a space and a name behind the names above
 pub name_pushed : (out middle spaced done bytes text to whole : List ℕ) → done ≡ spaced ++ bytes → spaced ≡ middle ++ 32 ∷ [] → middle ≡ out ++ to → bytes ≡ text → whole ≡ to ++ 32 ∷ text → done ≡ out ++ whole

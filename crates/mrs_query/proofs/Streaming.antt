@@ -6,7 +6,7 @@ use Rattle.std.specs.Io.KnownBytes.{Appends, Consumes, Keeps, IsAtEnd}
 use Rattle.std.proofs.KnownBytes.{Appends-nil, Appends-trans, Appends-kept, Keeps-refl, Consumes-nil, Consumes-trans, Consumes-whole}
 use Rattle.spec_io.specs.Faults.{Rose}
 use Rattle.spec_io.specs.States.{Reading, Writing}
-use Rattle.spec_instructions.specs.Tree.{Own}
+use Rattle.spec_decode.specs.Machine.{Machine}
 use Rattle.spec_lines.specs.Listing.{words_in, rest_in, listing, rest_line, stream_lines}
 use Rattle.spec_lines.proofs.Streams.{IsWhole, listing-words, words_in-append, rest_in-append, length-words_in}
 use Rattle.spec_run.specs.End as run
@@ -25,14 +25,14 @@ use Rattle.mrs_query.specs.declared.status.Status.TheVariants as status
 use Rattle.mrs_query.specs.declared.status.Which.TheVariants as which
 
 -- k pieces were read and listed
-pub record Progress (paths : List (List Own)) (r0 r : Reading) (w0 w : Writing) (k : ℕ) : Type 0 where
+pub record Progress (machine : Machine) (r0 r : Reading) (w0 w : Writing) (k : ℕ) : Type 0 where
   pub done : List ℕ
   pub size : length done ≡ k * 65536
   pub read : Consumes r0.left r.left done
-  pub wrote : Appends w0.taken w.taken (listing paths 0 (words_in done))
+  pub wrote : Appends w0.taken w.taken (listing machine 0 (words_in done))
 
-pub progress_start : (paths : List (List Own)) (r : Reading) (w : Writing) → Progress paths r r w w 0
-progress_start paths r w = record { done = []; size = refl; read = Consumes-nil r.left; wrote = Appends-nil w.taken }
+pub progress_start : (machine : Machine) (r : Reading) (w : Writing) → Progress machine r r w w 0
+progress_start machine r w = record { done = []; size = refl; read = Consumes-nil r.left; wrote = Appends-nil w.taken }
 
 whole_pieces : (done : List ℕ) (k : ℕ) → length done ≡ k * 65536 → IsWhole done
 whole_pieces done k size = record { count = 16384 * k; size = omega (arith, size) }
@@ -63,9 +63,9 @@ not_begun over r w = let stream = stream_behind r.left r.left [] (Consumes-nil r
   out_count = omega arith;
 }
 
-module _ (paths : List (List Own)) where
+module _ (machine : Machine) where
   abbrev OfStream : Reading → (Outcome → Type 0) → Type 0
-  OfStream r P = (bytes : List ℕ) × IfSome r.left (λ all. all ≡ bytes) × P (stream_outcome paths bytes)
+  OfStream r P = (bytes : List ℕ) × IfSome r.left (λ all. all ≡ bytes) × P (stream_outcome machine bytes)
 
   abbrev OfPart : ℕ → Reading → Writing → Writing → Type 0
   OfPart d r w w1 = OfStream r (λ o. Part d w w1 o.out)
@@ -85,27 +85,27 @@ module _ (paths : List (List Own)) where
       (n, l, subst (Appends w.taken w1.taken) same out)
 
   -- a first part of the lines of what was read
-  part_told : (r r1 : Reading) (w w1 : Writing) (bytes : List ℕ) (n d : ℕ) → Consumes r.left r1.left bytes → length bytes ≤ stream_limit → n + d ≤ length (listing paths 0 (words_in bytes)) → Appends w.taken w1.taken (take n (listing paths 0 (words_in bytes)))
+  part_told : (r r1 : Reading) (w w1 : Writing) (bytes : List ℕ) (n d : ℕ) → Consumes r.left r1.left bytes → length bytes ≤ stream_limit → n + d ≤ length (listing machine 0 (words_in bytes)) → Appends w.taken w1.taken (take n (listing machine 0 (words_in bytes)))
       → OfPart d r w w1
   part_told r r1 w w1 bytes n d read fits le out =
       let stream = stream_behind r.left r1.left bytes read in
-      let front = list_front paths bytes stream.0 fits in
-      (bytes ++ stream.0, stream.1, prefix_of w w1 (listing paths 0 (words_in bytes)) front.0 _ n d front.1 le out)
+      let front = list_front machine bytes stream.0 fits in
+      (bytes ++ stream.0, stream.1, prefix_of w w1 (listing machine 0 (words_in bytes)) front.0 _ n d front.1 le out)
 
   -- ---- one more piece
 
   -- the lines of one more piece behind those of k pieces
-  lines_more : (done bytes : List ℕ) (k : ℕ) → length done ≡ k * 65536 → listing paths 0 (words_in (done ++ bytes)) ≡ listing paths 0 (words_in done) ++ listing paths (k * 65536) (words_in bytes)
+  lines_more : (done bytes : List ℕ) (k : ℕ) → length done ≡ k * 65536 → listing machine 0 (words_in (done ++ bytes)) ≡ listing machine 0 (words_in done) ++ listing machine (k * 65536) (words_in bytes)
   lines_more done bytes k size =
       let z : 0 + length done ≡ k * 65536 = omega (arith, size) in
-      listing-words paths 0 done bytes (whole_pieces done k size) ∙ ap (λ o. listing paths 0 (words_in done) ++ listing paths o (words_in bytes)) z
+      listing-words machine 0 done bytes (whole_pieces done k size) ∙ ap (λ o. listing machine 0 (words_in done) ++ listing machine o (words_in bytes)) z
 
-  wrote_more : (w0 w w1 : Writing) (done bytes : List ℕ) (k : ℕ) → length done ≡ k * 65536 → Appends w0.taken w.taken (listing paths 0 (words_in done))
-      → Appends w.taken w1.taken (listing paths (k * 65536) (words_in bytes)) → Appends w0.taken w1.taken (listing paths 0 (words_in (done ++ bytes)))
+  wrote_more : (w0 w w1 : Writing) (done bytes : List ℕ) (k : ℕ) → length done ≡ k * 65536 → Appends w0.taken w.taken (listing machine 0 (words_in done))
+      → Appends w.taken w1.taken (listing machine (k * 65536) (words_in bytes)) → Appends w0.taken w1.taken (listing machine 0 (words_in (done ++ bytes)))
   wrote_more w0 w w1 done bytes k size first next = subst (Appends w0.taken w1.taken) (sym (lines_more done bytes k size)) (Appends-trans w0.taken w.taken w1.taken _ _ first next)
 
   module _ (r0 r r1 : Reading) (w0 w w1 : Writing) where
-    pub progress_next : (k n : ℕ) (buffer : List ℕ) → length buffer ≡ 65536 → 65536 ≤ n → Progress paths r0 r w0 w k → PieceListed paths (k * 65536) (length buffer) r r1 w w1 buffer n → Progress paths r0 r1 w0 w1 (k + 1)
+    pub progress_next : (k n : ℕ) (buffer : List ℕ) → length buffer ≡ 65536 → 65536 ≤ n → Progress machine r0 r w0 w k → PieceListed machine (k * 65536) (length buffer) r r1 w w1 buffer n → Progress machine r0 r1 w0 w1 (k + 1)
     progress_next k n buffer room full p h = record {
       done = p.done ++ take n buffer;
       size = let fits : n ≤ length buffer = h.fits in simp (length-append, length-take) (omega (arith, p.size));
@@ -114,19 +114,19 @@ module _ (paths : List (List Own)) where
     }
 
     -- the lines of k pieces went out, and then a first part of those of the next one
-    part_of_piece : (k n d : ℕ) (bytes : List ℕ) → k < 65536 → length bytes ≤ 65536 → Progress paths r0 r w0 w k → Consumes r.left r1.left bytes
-        → n + d ≤ length (listing paths (k * 65536) (words_in bytes)) → Appends w.taken w1.taken (take n (listing paths (k * 65536) (words_in bytes))) → OfPart d r0 w0 w1
+    part_of_piece : (k n d : ℕ) (bytes : List ℕ) → k < 65536 → length bytes ≤ 65536 → Progress machine r0 r w0 w k → Consumes r.left r1.left bytes
+        → n + d ≤ length (listing machine (k * 65536) (words_in bytes)) → Appends w.taken w1.taken (take n (listing machine (k * 65536) (words_in bytes))) → OfPart d r0 w0 w1
     part_of_piece k n d bytes few fits p read le out =
-        let first : List ℕ = listing paths 0 (words_in p.done) in
-        let next : List ℕ = listing paths (k * 65536) (words_in bytes) in
-        let e : listing paths 0 (words_in (p.done ++ bytes)) ≡ first ++ next = lines_more p.done bytes k p.size in
+        let first : List ℕ = listing machine 0 (words_in p.done) in
+        let next : List ℕ = listing machine (k * 65536) (words_in bytes) in
+        let e : listing machine 0 (words_in (p.done ++ bytes)) ≡ first ++ next = lines_more p.done bytes k p.size in
         let within : length (p.done ++ bytes) ≤ stream_limit = simp length-append (omega (arith, p.size)) in
-        let m : length first + n + d ≤ length (listing paths 0 (words_in (p.done ++ bytes))) = omega (arith, ap length e, length-append first next) in
-        let text : take (length first + n) (listing paths 0 (words_in (p.done ++ bytes))) ≡ first ++ take n next = ap (take (length first + n)) e ∙ take-append-add first next n in
+        let m : length first + n + d ≤ length (listing machine 0 (words_in (p.done ++ bytes))) = omega (arith, ap length e, length-append first next) in
+        let text : take (length first + n) (listing machine 0 (words_in (p.done ++ bytes))) ≡ first ++ take n next = ap (take (length first + n)) e ∙ take-append-add first next n in
         part_told r0 r1 w0 w1 (p.done ++ bytes) (length first + n) d (Consumes-trans r0.left r.left r1.left p.done bytes p.read read) within m
         (subst (Appends w0.taken w1.taken) (sym text) (Appends-trans w0.taken w.taken w1.taken first _ p.wrote out))
 
-    few_bytes : (k limit : ℕ) (bytes : List ℕ) → Progress paths r0 r w0 w k → Consumes r.left r1.left bytes → k * 65536 + length bytes ≤ limit → ReadsAtMost r0 r1 limit
+    few_bytes : (k limit : ℕ) (bytes : List ℕ) → Progress machine r0 r w0 w k → Consumes r.left r1.left bytes → k * 65536 + length bytes ≤ limit → ReadsAtMost r0 r1 limit
     few_bytes k limit bytes p read few = record {
       bytes = p.done ++ bytes;
       taken = Consumes-trans r0.left r.left r1.left p.done bytes p.read read;
@@ -134,27 +134,27 @@ module _ (paths : List (List Own)) where
     }
 
     -- the source failed behind k pieces
-    input_broke : (k : ℕ) (bytes : List ℕ) → k ≤ 65536 → r0.faults ≤ r.faults → Rose r.faults r1.faults → Progress paths r0 r w0 w k → Consumes r.left r1.left bytes → Keeps w.taken w1.taken → Broke r0 r1 w0 w1 (list_work paths)
+    input_broke : (k : ℕ) (bytes : List ℕ) → k ≤ 65536 → r0.faults ≤ r.faults → Rose r.faults r1.faults → Progress machine r0 r w0 w k → Consumes r.left r1.left bytes → Keeps w.taken w1.taken → Broke r0 r1 w0 w1 (list_work machine)
     input_broke k bytes few le rose p read kept = record {
       cause = Rose-earlier r0.faults r.faults r1.faults le rose;
       read = p.done ++ bytes;
       was_read = Consumes-trans r0.left r.left r1.left p.done bytes p.read read;
       front = length p.done;
       within = omega (arith, p.size);
-      lines = subst (λ xs. Appends w0.taken w1.taken (listing paths 0 (words_in xs))) (sym (take-append_seam p.done bytes)) (Appends-kept w0.taken w.taken w1.taken _ p.wrote kept);
+      lines = subst (λ xs. Appends w0.taken w1.taken (listing machine 0 (words_in xs))) (sym (take-append_seam p.done bytes)) (Appends-kept w0.taken w.taken w1.taken _ p.wrote kept);
     }
 
     -- what k pieces wrote is a part of the outcome, and so it is where nothing more went out
-    kept_part : (k : ℕ) (bytes : List ℕ) → k < 65536 → length bytes ≤ 65536 → Progress paths r0 r w0 w k → Consumes r.left r1.left bytes → Keeps w.taken w1.taken → OfStream r0 (λ o. TookPrefix w0 w1 o.out)
+    kept_part : (k : ℕ) (bytes : List ℕ) → k < 65536 → length bytes ≤ 65536 → Progress machine r0 r w0 w k → Consumes r.left r1.left bytes → Keeps w.taken w1.taken → OfStream r0 (λ o. TookPrefix w0 w1 o.out)
     kept_part k bytes few fits p read kept =
         prefix_told r0 w0 w1 (part_of_piece k 0 0 bytes few fits p read (omega arith) (Appends-kept w.taken w.taken w1.taken [] (Appends-nil w.taken) kept))
 
     abbrev Ends : run.End → Type 0
-    Ends end = Ran r0 r1 w0 w1 (Reads (list_work paths)) end
+    Ends end = Ran r0 r1 w0 w1 (Reads (list_work machine)) end
 
     -- a piece was not listed whole
-    pub stopped : (k : ℕ) (buffer : List ℕ) (s : Stop) → k < 65536 → length buffer ≡ 65536 → r0.faults ≤ r.faults → w0.faults ≤ w.faults → Progress paths r0 r w0 w k
-        → PieceEnds paths (k * 65536) (length buffer) r r1 w w1 buffer (Err s) → PieceCause r r1 w w1 (Err s) → Ends (end_of (status_of s))
+    pub stopped : (k : ℕ) (buffer : List ℕ) (s : Stop) → k < 65536 → length buffer ≡ 65536 → r0.faults ≤ r.faults → w0.faults ≤ w.faults → Progress machine r0 r w0 w k
+        → PieceEnds machine (k * 65536) (length buffer) r r1 w w1 buffer (Err s) → PieceCause r r1 w w1 (Err s) → Ends (end_of (status_of s))
     stopped k buffer stop.Input few room il ol p h cause =
         let fits : length h.bytes ≤ 65536 = omega (arith, room, h.fits) in record {
           meaning = input_broke k h.bytes (omega arith) il cause.cause p h.read h.nothing;
@@ -186,9 +186,9 @@ module _ (paths : List (List Own)) where
   Listed r w w1 end = OfStream r (λ o. (o.end ≡ end) × Appends w.taken w1.taken o.out)
 
   -- a stream that was read to its end, and whose lines all went out
-  whole_told : (r0 r1 : Reading) (w0 w1 : Writing) (all : List ℕ) (end : run.End) → Consumes r0.left r1.left all → IsAtEnd r1.left → length all ≤ stream_limit → stream_end (rest_in all) ≡ end → Appends w0.taken w1.taken (stream_lines paths all) → Listed r0 w0 w1 end
+  whole_told : (r0 r1 : Reading) (w0 w1 : Writing) (all : List ℕ) (end : run.End) → Consumes r0.left r1.left all → IsAtEnd r1.left → length all ≤ stream_limit → stream_end (rest_in all) ≡ end → Appends w0.taken w1.taken (stream_lines machine all) → Listed r0 w0 w1 end
   whole_told r0 r1 w0 w1 all end read ended le is wrote =
-      let e = outcome_whole paths all le in
+      let e = outcome_whole machine all le in
       let same = Consumes-whole r0.left r1.left all (λ bytes. bytes ≡ all) read ended refl in
       (all, same, (ap (λ o. o.end) e ∙ is, subst (Appends w0.taken w1.taken) (sym (ap (λ o. o.out) e)) wrote))
 
@@ -209,12 +209,12 @@ module _ (paths : List (List Own)) where
     pub fits : length all ≤ stream_limit
     pub read : Consumes r0.left r1.left all
     pub ended : IsAtEnd r1.left
-    pub wrote : Appends w0.taken w1.taken (listing paths 0 (words_in all))
+    pub wrote : Appends w0.taken w1.taken (listing machine 0 (words_in all))
     pub rest : rest_in all ≡ rest_in last
-    pub text : stream_lines paths all ≡ listing paths 0 (words_in all) ++ rest_text offset last
+    pub text : stream_lines machine all ≡ listing machine 0 (words_in all) ++ rest_text offset last
 
-  last_piece : (r0 r r1 : Reading) (w0 w w1 : Writing) (k n : ℕ) (buffer : List ℕ) → k < 65536 → length buffer ≡ 65536 → n < 65536 → Progress paths r0 r w0 w k
-      → PieceListed paths (k * 65536) (length buffer) r r1 w w1 buffer n → ReadAll r0 r1 w0 w1 (k * 65536) (take n buffer)
+  last_piece : (r0 r r1 : Reading) (w0 w w1 : Writing) (k n : ℕ) (buffer : List ℕ) → k < 65536 → length buffer ≡ 65536 → n < 65536 → Progress machine r0 r w0 w k
+      → PieceListed machine (k * 65536) (length buffer) r r1 w w1 buffer n → ReadAll r0 r1 w0 w1 (k * 65536) (take n buffer)
   last_piece r0 r r1 w0 w w1 k n buffer few room short p h = record {
     all = p.done ++ take n buffer;
     fits = simp (length-append, length-take) (omega (arith, p.size));
@@ -222,13 +222,13 @@ module _ (paths : List (List Own)) where
     ended = h.end (omega arith);
     wrote = wrote_more w0 w w1 p.done (take n buffer) k p.size p.wrote h.wrote;
     rest = rest_in-append p.done (take n buffer) (whole_pieces p.done k p.size);
-    text = ap (λ line. listing paths 0 (words_in (p.done ++ take n buffer)) ++ line) (rest_same p.done (take n buffer) k p.size);
+    text = ap (λ line. listing machine 0 (words_in (p.done ++ take n buffer)) ++ line) (rest_same p.done (take n buffer) k p.size);
   }
 
   module _ (r0 r1 : Reading) (w0 w1 w2 : Writing) (offset : ℕ) (last : List ℕ) (r : ReadAll r0 r1 w0 w1 offset last) where
     no_rest : rest_in last ≡ [] → Keeps w1.taken w2.taken → Listed r0 w0 w2 run.Done
     no_rest none kept =
-        let lines : stream_lines paths r.all ≡ listing paths 0 (words_in r.all) = r.text ∙ ap (λ rest. listing paths 0 (words_in r.all) ++ rest_line (offset + 4 * length (words_in last)) rest) none ∙ append-nil _ in
+        let lines : stream_lines machine r.all ≡ listing machine 0 (words_in r.all) = r.text ∙ ap (λ rest. listing machine 0 (words_in r.all) ++ rest_line (offset + 4 * length (words_in last)) rest) none ∙ append-nil _ in
         whole_told r0 r1 w0 w2 r.all run.Done r.read r.ended r.fits (ap stream_end (r.rest ∙ none)) (subst (Appends w0.taken w2.taken) (sym lines) (Appends-kept w0.taken w1.taken w2.taken _ r.wrote kept))
 
     with_rest : (n : ℕ) → 0 < n → length (rest_in last) ≡ n → Appends w1.taken w2.taken (rest_text offset last) → Listed r0 w0 w2 (run.Ragged n)
@@ -237,10 +237,10 @@ module _ (paths : List (List Own)) where
 
     cut_rest : (n d : ℕ) → n + d ≤ length (rest_text offset last) → Appends w1.taken w2.taken (take n (rest_text offset last)) → OfPart d r0 w0 w2
     cut_rest n d le wrote =
-        let lines : List ℕ = listing paths 0 (words_in r.all) in
-        let e : (stream_outcome paths r.all).out ≡ lines ++ rest_text offset last = ap (λ o. o.out) (outcome_whole paths r.all r.fits) ∙ r.text in
-        let m : length lines + n + d ≤ length (stream_outcome paths r.all).out = omega (arith, ap length e, length-append lines (rest_text offset last)) in
-        let text : take (length lines + n) (stream_outcome paths r.all).out ≡ lines ++ take n (rest_text offset last) = ap (take (length lines + n)) e ∙ take-append-add lines (rest_text offset last) n in
+        let lines : List ℕ = listing machine 0 (words_in r.all) in
+        let e : (stream_outcome machine r.all).out ≡ lines ++ rest_text offset last = ap (λ o. o.out) (outcome_whole machine r.all r.fits) ∙ r.text in
+        let m : length lines + n + d ≤ length (stream_outcome machine r.all).out = omega (arith, ap length e, length-append lines (rest_text offset last)) in
+        let text : take (length lines + n) (stream_outcome machine r.all).out ≡ lines ++ take n (rest_text offset last) = ap (take (length lines + n)) e ∙ take-append-add lines (rest_text offset last) n in
         let same = Consumes-whole r0.left r1.left r.all (λ bytes. bytes ≡ r.all) r.read r.ended refl in
         (r.all, same, (length lines + n, m, subst (Appends w0.taken w2.taken) (sym text) (Appends-trans w0.taken w1.taken w2.taken lines _ r.wrote wrote)))
 
@@ -249,7 +249,7 @@ module _ (paths : List (List Own)) where
     few = record { bytes = r.all; taken = r.read; few = omega (arith, r.fits) }
 
     abbrev At : run.End → Type 0
-    At end = Ran r0 r1 w0 w2 (Reads (list_work paths)) end
+    At end = Ran r0 r1 w0 w2 (Reads (list_work machine)) end
 
     ends : (s : Status) → r0.faults ≤ r1.faults → w0.faults ≤ w1.faults → Finished offset last w1 w2 s → At (end_of s)
     ends status.Done il ol f = record { meaning = (no_rest f.0 f.1, r.ended); reading = few; input_count = il; out_count = omega (arith, f.2) }
@@ -273,14 +273,14 @@ module _ (paths : List (List Own)) where
     ends (status.Limit which) il ol f = absurd f
 
   -- the last piece was listed, and then the bytes behind its last whole word
-  pub finished : (r0 r r1 : Reading) (w0 w w1 w2 : Writing) (k n : ℕ) (buffer : List ℕ) (s : Status) → k < 65536 → length buffer ≡ 65536 → n < 65536 → r0.faults ≤ r.faults → w0.faults ≤ w.faults → PieceCause r r1 w w1 (Ok n) → Progress paths r0 r w0 w k
-      → PieceListed paths (k * 65536) (length buffer) r r1 w w1 buffer n → Finished (k * 65536) (take n buffer) w1 w2 s → Ran r0 r1 w0 w2 (Reads (list_work paths)) (end_of s)
+  pub finished : (r0 r r1 : Reading) (w0 w w1 w2 : Writing) (k n : ℕ) (buffer : List ℕ) (s : Status) → k < 65536 → length buffer ≡ 65536 → n < 65536 → r0.faults ≤ r.faults → w0.faults ≤ w.faults → PieceCause r r1 w w1 (Ok n) → Progress machine r0 r w0 w k
+      → PieceListed machine (k * 65536) (length buffer) r r1 w w1 buffer n → Finished (k * 65536) (take n buffer) w1 w2 s → Ran r0 r1 w0 w2 (Reads (list_work machine)) (end_of s)
   finished r0 r r1 w0 w w1 w2 k n buffer s few room short il ol cause p h f =
       ends r0 r1 w0 w1 w2 (k * 65536) (take n buffer) (last_piece r0 r r1 w0 w w1 k n buffer few room short p h) s (omega (arith, cause.input_later)) (omega (arith, cause.out_later)) f
 
   -- ---- the limit
 
-  at_limit : (r0 r r1 : Reading) (w0 w : Writing) (byte : ℕ) → Progress paths r0 r w0 w 65536 → Consumes r.left r1.left (byte ∷ []) → Listed r0 w0 w (run.Limit run.Input)
+  at_limit : (r0 r r1 : Reading) (w0 w : Writing) (byte : ℕ) → Progress machine r0 r w0 w 65536 → Consumes r.left r1.left (byte ∷ []) → Listed r0 w0 w (run.Limit run.Input)
   at_limit r0 r r1 w0 w byte p more =
       let limit : length p.done ≡ stream_limit = omega (arith, p.size) in
       let stream = stream_behind r0.left r1.left (p.done ++ byte ∷ []) (Consumes-trans r0.left r.left r1.left p.done _ p.read more) in
@@ -288,10 +288,10 @@ module _ (paths : List (List Own)) where
       let behind : all ≡ p.done ++ byte ∷ stream.0 = append_assoc p.done (byte ∷ []) stream.0 in
       let long : stream_limit < length all = omega (arith, ap length behind, length-append p.done (byte ∷ stream.0), limit) in
       let cut : take stream_limit all ≡ p.done = ap (λ n. take n all) (sym limit) ∙ ap (take (length p.done)) behind ∙ take-append_seam p.done (byte ∷ stream.0) in
-      let e = outcome_long paths all long in
-      (all, stream.1, (ap (λ o. o.end) e, subst (Appends w0.taken w.taken) (sym (ap (λ o. o.out) e ∙ ap (λ bytes. listing paths 0 (words_in bytes)) cut)) p.wrote))
+      let e = outcome_long machine all long in
+      (all, stream.1, (ap (λ o. o.end) e, subst (Appends w0.taken w.taken) (sym (ap (λ o. o.out) e ∙ ap (λ bytes. listing machine 0 (words_in bytes)) cut)) p.wrote))
 
-  read_to_limit : (r0 r r1 : Reading) (w0 w : Writing) → Progress paths r0 r w0 w 65536 → Consumes r.left r1.left [] → IsAtEnd r1.left → ReadAll r0 r1 w0 w 4294967296 []
+  read_to_limit : (r0 r r1 : Reading) (w0 w : Writing) → Progress machine r0 r w0 w 65536 → Consumes r.left r1.left [] → IsAtEnd r1.left → ReadAll r0 r1 w0 w 4294967296 []
   read_to_limit r0 r r1 w0 w p more ended =
       let whole = whole_pieces p.done 65536 p.size in
       let same : p.done ++ [] ≡ p.done = append-nil p.done in
@@ -302,11 +302,11 @@ module _ (paths : List (List Own)) where
         ended = ended;
         wrote = p.wrote;
         rest = none;
-        text = ap (λ rest. listing paths 0 (words_in p.done) ++ rest_line (4 * length (words_in p.done)) rest) none;
+        text = ap (λ rest. listing machine 0 (words_in p.done) ++ rest_line (4 * length (words_in p.done)) rest) none;
       }
 
   -- all pieces within the limit were listed
-  pub probed : (r0 r r1 : Reading) (w0 w : Writing) (s : Status) → r0.faults ≤ r.faults → w0.faults ≤ w.faults → Progress paths r0 r w0 w 65536 → Probed r r1 s → Ran r0 r1 w0 w (Reads (list_work paths)) (end_of s)
+  pub probed : (r0 r r1 : Reading) (w0 w : Writing) (s : Status) → r0.faults ≤ r.faults → w0.faults ≤ w.faults → Progress machine r0 r w0 w 65536 → Probed r r1 s → Ran r0 r1 w0 w (Reads (list_work machine)) (end_of s)
   probed r0 r r1 w0 w status.Done il ol p h =
       ends r0 r1 w0 w w 4294967296 [] (read_to_limit r0 r r1 w0 w p h.0 h.1) status.Done (omega (arith, h.2)) ol (refl, Keeps-refl w.taken, omega arith)
   probed r0 r r1 w0 w (status.Limit which.Input) il ol p h = record {

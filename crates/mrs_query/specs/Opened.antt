@@ -8,7 +8,7 @@ use Rattle.serde_json.specs.declared.value.Value.{Value}
 use Rattle.spec_run.specs.End as run
 use Rattle.spec_run.specs.Opening as opening
 use Rattle.spec_run.specs.Logs as logs
-use Rattle.spec_run.specs.Opens.{ShelfStill, Gives, Fails}
+use Rattle.spec_run.specs.Opens.{ShelfStill, DocumentsGive, IsUnopened}
 use Rattle.mrs_query.specs.declared.opening.Unread.{Unread}
 use Rattle.mrs_query.specs.declared.opening.Unread.TheVariants as unread
 use Rattle.mrs_query.specs.declared.opening_error.OpeningError.{OpeningError}
@@ -35,10 +35,10 @@ ReadLog text (Err unread.NoMemory) = ⊤
 
 -- what is made of the documents
 abbrev pub Opens : {A : Type 0} → (List Document → Result A opening.OpeningError) → Shelving → Shelving → Result A OpeningError → Type 0
-Opens given shelf shelf_after (Ok found) = Gives given shelf shelf_after (Ok found) × ShelfStill shelf shelf_after
-Opens given shelf shelf_after (Err (error.NotRead which)) = Fails given shelf shelf_after (opening.NotRead (which_of which))
-Opens given shelf shelf_after (Err (error.TooLong which)) = Fails given shelf shelf_after (opening.TooLong (which_of which))
-Opens given shelf shelf_after (Err (error.Refused which fault)) = Fails given shelf shelf_after (opening.Refused (which_of which) (fault_of fault))
+Opens given shelf shelf_after (Ok found) = DocumentsGive given shelf shelf_after (Ok found) × ShelfStill shelf shelf_after
+Opens given shelf shelf_after (Err (error.NotRead which)) = IsUnopened given shelf shelf_after (opening.NotRead (which_of which))
+Opens given shelf shelf_after (Err (error.TooLong which)) = IsUnopened given shelf shelf_after (opening.TooLong (which_of which))
+Opens given shelf shelf_after (Err (error.Refused which fault)) = IsUnopened given shelf shelf_after (opening.Refused (which_of which) (fault_of fault))
 Opens given shelf shelf_after (Err error.NoMemory) = ShelfStill shelf shelf_after
 
 -- how the run ends where nothing is opened

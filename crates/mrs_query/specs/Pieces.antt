@@ -3,7 +3,7 @@ use Rattle.std.specs.Prelude.{◌≡◌, ◌<◌, ◌≤◌, ◌+◌, ◌*◌, �
 use Rattle.std.specs.Io.KnownBytes.{Appends, Consumes, Keeps, IsAtEnd}
 use Rattle.spec_io.specs.Faults.{Rose}
 use Rattle.spec_io.specs.States.{Reading, Writing}
-use Rattle.spec_instructions.specs.Tree.{Own}
+use Rattle.spec_decode.specs.Machine.{Machine}
 use Rattle.spec_lines.specs.Listing.{words_in, rest_in, listing, rest_line}
 use Rattle.mrs_io.specs.Pieces.{AppendsPart}
 use Rattle.mrs_query.specs.declared.commands.list.Stop.{Stop}
@@ -12,12 +12,12 @@ use Rattle.mrs_query.specs.declared.status.Status.{Status}
 use Rattle.mrs_query.specs.declared.status.Status.TheVariants as status
 use Rattle.mrs_query.specs.declared.status.Which.TheVariants as which
 
-module _ (paths : List (List Own)) (offset room : ℕ) (input input_after : Reading) (out out_after : Writing) where
+module _ (machine : Machine) (offset room : ℕ) (input input_after : Reading) (out out_after : Writing) where
   -- a piece was read into the front of the buffer, and its words were listed; it is short only at the end of the stream
   pub record PieceListed (buffer : List ℕ) (n : ℕ) : Type 0 where
     pub fits : n ≤ room
     pub read : Consumes input.left input_after.left (take n buffer)
-    pub wrote : Appends out.taken out_after.taken (listing paths offset (words_in (take n buffer)))
+    pub wrote : Appends out.taken out_after.taken (listing machine offset (words_in (take n buffer)))
     pub end : n < room → IsAtEnd input_after.left
 
   -- some bytes were read, at most as many as there is room for, and nothing went out
@@ -32,7 +32,7 @@ module _ (paths : List (List Own)) (offset room : ℕ) (input input_after : Read
     pub bytes : List ℕ
     pub fits : length bytes ≤ room
     pub read : Consumes input.left input_after.left bytes
-    pub part : AppendsPart out.taken out_after.taken (listing paths offset (words_in bytes))
+    pub part : AppendsPart out.taken out_after.taken (listing machine offset (words_in bytes))
 
   abbrev pub PieceEnds : List ℕ → Result ℕ Stop → Type 0
   PieceEnds buffer (Ok n) = PieceListed buffer n

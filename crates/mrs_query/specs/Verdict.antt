@@ -1,6 +1,6 @@
 -- The line of a verdict of the checker.
 use Rattle.std.specs.Prelude.{ℕ, List}
-use Rattle.spec_lines.specs.Verdict.{refuted_line, fails_line}
+use Rattle.spec_lines.specs.LogLine.{refuted_line, fails_line}
 use Rattle.feat_proof.specs.declared.verdicts.Verdict.{Verdict}
 use Rattle.feat_proof.specs.declared.verdicts.Verdict.TheVariants as verdict
 

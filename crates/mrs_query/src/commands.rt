@@ -40,7 +40,7 @@ pub(crate) fn fulfil<V: Shelf, S: Source, K: Sink>(
         (λ _. (input.new ≡ input.old) × (out.new ≡ out.old)) }
 {
     match asked {
-        Request::List { release } => {
+        Request::List { release, on: _ } => {
             let opened = open_release(alloc, shelf, release)?;
             Ok(list_stream(alloc, &opened, input, out))
         }

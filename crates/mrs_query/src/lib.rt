@@ -2,6 +2,7 @@
 #![tactic(auto)]
 
 mod commands;
+mod fetching;
 mod hex;
 mod label;
 mod line;

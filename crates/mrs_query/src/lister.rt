@@ -18,7 +18,7 @@ pub(crate) fn push_lines(
     piece: &[u8],
 ) -> Result<(), AllocError>
     requires { offset + length piece.now < 2 ^ 64 }
-    ensures { OnOk result (out.new.items ≡ out.old.items ++ listing opened.now.paths offset (words_in piece.now)) }
+    ensures { OnOk result (out.new.items ≡ out.old.items ++ listing opened.now offset (words_in piece.now)) }
 {
     let mut at = offset;
     let mut rest = piece;

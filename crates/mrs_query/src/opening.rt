@@ -5,19 +5,17 @@ ghost use Rattle.spec_run.specs.Opening.{json_in, release_opened};
 ghost use Rattle.mrs_command.specs.Commands.{release_of};
 ghost use Rattle.mrs_query.specs.Opened.{Read, Opens, Parsed};
 
+use crate::fetching::fetch_document;
 use crate::opened::Opened;
 use crate::opening_error::OpeningError;
 use crate::{DocFault, Which};
 use insn_tree::Tree;
 use mrs_command::Release;
-use mrs_io::{FetchFault, Shelf};
+use mrs_io::Shelf;
 use mrs_names::Names;
 use mrs_schema::{ReadFault, read_instructions};
 use serde_json::Value;
 use std::alloc::Global;
-
-/// The greatest length of a document, in bytes.
-pub(crate) const DOCUMENT_LIMIT: u64 = 268_435_456;
 
 /// Why bytes are not read.
 #[derive(Drop, Debug)]
@@ -39,12 +37,7 @@ pub(crate) fn open_release<V: Shelf>(
     ensures later { (V.shelving shelf.old).faults ≤ (V.shelving shelf.new).faults }
 {
     let which = Which::Insns;
-    let bytes = match shelf.fetch(alloc, release.insns, DOCUMENT_LIMIT) {
-        Ok(bytes) => bytes,
-        Err(FetchFault::Failed) => return Err(OpeningError::NotRead { which }),
-        Err(FetchFault::TooLong) => return Err(OpeningError::TooLong { which }),
-        Err(FetchFault::NoMemory) => return Err(OpeningError::NoMemory),
-    };
+    let bytes = fetch_document(alloc, shelf, which, release.insns)?;
     match read_document(alloc, &bytes, release.isa) {
         Ok(opened) => Ok(opened),
         Err(Unread::Refused(fault)) => Err(OpeningError::Refused { which, fault }),

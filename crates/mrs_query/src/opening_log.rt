@@ -3,12 +3,13 @@ ghost use Rattle.std.specs.Prelude.{◌≡◌, ◌≤◌};
 ghost use Rattle.spec_run.specs.Logs.{log_opened};
 ghost use Rattle.mrs_query.specs.Opened.{Opens, ReadLog};
 
+use crate::fetching::fetch_document;
 use crate::opened_log::OpenedLog;
-use crate::opening::{DOCUMENT_LIMIT, Unread};
+use crate::opening::Unread;
 use crate::opening_error::OpeningError;
 use crate::{DocFault, Which};
 use feat_proof::{LogFault, read_log};
-use mrs_io::{FetchFault, Shelf};
+use mrs_io::Shelf;
 use std::alloc::Global;
 
 /// The log of that name, or why it is not opened.
@@ -22,12 +23,7 @@ pub(crate) fn open_log<V: Shelf>(
     ensures later { (V.shelving shelf.old).faults ≤ (V.shelving shelf.new).faults }
 {
     let which = Which::Log;
-    let bytes = match shelf.fetch(alloc, name, DOCUMENT_LIMIT) {
-        Ok(bytes) => bytes,
-        Err(FetchFault::Failed) => return Err(OpeningError::NotRead { which }),
-        Err(FetchFault::TooLong) => return Err(OpeningError::TooLong { which }),
-        Err(FetchFault::NoMemory) => return Err(OpeningError::NoMemory),
-    };
+    let bytes = fetch_document(alloc, shelf, which, name)?;
     match read_text(alloc, &bytes) {
         Ok(opened) => Ok(opened),
         Err(Unread::Refused(fault)) => Err(OpeningError::Refused { which, fault }),

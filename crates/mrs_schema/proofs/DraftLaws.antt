@@ -9,21 +9,22 @@ use Rattle.spec_walk.specs.Event.{TooMany}
 use Rattle.spec_walk.specs.Walk.{gives}
 use Rattle.spec_walk.specs.Spot.{Spot, unless}
 use Rattle.spec_instructions.specs.Encodeset.{within_limits, named_in}
+use Rattle.spec_expressions.specs.Expression.{ExprOf}
 use Rattle.mrs_names.specs.Texts.{place_of, AreNames}
 use Rattle.mrs_names.specs.declared.name_id.NameId.{NameId}
-use Rattle.mrs_arena.specs.Flat.{FlatItem, FlatNode}
+use Rattle.mrs_arena.specs.Flat.{FlatItem, FlatNode, Built}
 use Rattle.mrs_arena.specs.Paths.{ancestors}
 use Rattle.mrs_arena.specs.Nodes as flat
 use Rattle.mrs_arena.specs.Nodes.{parents_of, named_on, items_upward, with_item}
 use Rattle.mrs_arena.specs.Limits.{is_item_refused}
 use Rattle.mrs_arena.specs.Formed.{AreNodes}
-use Rattle.mrs_arena.specs.Placed.{text_of, item_of, own_of_flat, Placed, placed_node, IsHeldItem, IsHeldNode, AreHeld}
+use Rattle.mrs_arena.specs.Placed.{text_of, item_of, expr_of, own_of_flat, Placed, placed_node, IsHeldItem, IsHeldNode, AreHeld}
 use Rattle.mrs_arena.proofs.HeldLaws.{parents-placed, count_by-map, is_some-map}
 use Rattle.mrs_arena.proofs.LastOneLaws.{map-at_last}
 use Rattle.mrs_arena.proofs.PutLaws.{length-with_item}
-use Rattle.mrs_schema.specs.Drafted.{counts, items_at, last_items, named_at, last_named, with_items}
+use Rattle.mrs_schema.specs.Drafted.{counts, drafted, items_at, last_items, named_at, last_named, with_items, with_condition}
 use Rattle.mrs_schema.proofs.PlacedLaws.{last_named-with_items}
-use Rattle.mrs_schema.proofs.CountLaws.{counts-at_last}
+use Rattle.mrs_schema.proofs.CountLaws.{more_nodes, counts-at_last}
 use Rattle.spec_instructions.specs.Encodeset.{names_of}
 use Rattle.mrs_schema.proofs.TakenLaws.{place_of-held, has_number, has_number-is, has_no_number}
 
@@ -63,6 +64,9 @@ pub placed-with_item : (names : List (List ℕ)) (it : FlatItem) (nodes : List F
 placed-with_item names it nodes =
     map-at_last (placed_node names) _ _ (λ node. ap (λ items. record (placed_node names node) { own = record (own_of_flat names node) { items = items } }) (map_push (item_of names) node.items it)) nodes
 
+pub placed-with_condition : (names : List (List ℕ)) (e : ExprOf ℕ) (nodes : List FlatNode) → map (placed_node names) (flat.with_condition e nodes) ≡ with_condition (Some (expr_of names e)) (map (placed_node names) nodes)
+placed-with_condition names e nodes = map-at_last (placed_node names) _ _ (λ node. refl) nodes
+
 -- ---- limits
 
 named_one : (names : List (List ℕ)) (it : FlatItem) (name : Option ℕ) → it.name ≡ name → named_in (item_of names it ∷ []) ≡ length (option_to_list name)
@@ -87,25 +91,28 @@ few_named names nodes it some are =
     let put = ap last_named (placed-with_item names it nodes) ∙ last_named-with_items (item_of names it ∷ []) (map (placed_node names) nodes) (omega (arith, length-map nodes (placed_node names))) in
     omega (arith, few, new, put, named_one names it it.name refl)
 
-pub item_taken : (here : Spot) (names : List (List ℕ)) (nodes : List FlatNode) (it : FlatItem) (named : ℕ) → named ≡ length (option_to_list it.name) → 0 < length nodes → is_item_refused nodes it ≡ false → AreNodes (with_item it nodes)
-    → gives (unless (within_limits (length (last_items (map (placed_node names) nodes))) (last_named (map (placed_node names) nodes) + named)) here TooMany) (counts (record { names = names; nodes = map (placed_node names) nodes }))
-    ≡ Ok (tt, counts (record { names = names; nodes = map (placed_node names) (with_item it nodes) }))
-item_taken here names nodes it named is some room are =
+pub item_taken : (here : Spot) (names : List (List ℕ)) (b : Built) (it : FlatItem) (named : ℕ) → named ≡ length (option_to_list it.name) → 0 < length b.nodes → is_item_refused b.nodes it ≡ false → AreNodes (with_item it b.nodes)
+    → gives (unless (within_limits (length (last_items (map (placed_node names) b.nodes))) (last_named (map (placed_node names) b.nodes) + named)) here TooMany) (counts (drafted names b))
+    ≡ Ok (tt, counts (drafted names (more_nodes b (with_item it b.nodes))))
+item_taken here names b it named is some room are =
+    let nodes = b.nodes in
     let before = map (placed_node names) nodes in
     let parts = or_parts (nat_le 64 (length (flat.last_items nodes))) (is_some it.name && nat_le 256 (named_on nodes (length nodes - 1))) room in
     let low : length (last_items before) < 64 = omega (arith, length-last_items names nodes, leb-false 64 (length (flat.last_items nodes)) parts.0) in
     let few : last_named before + named ≤ 256 = omega (arith, few_named names nodes it some are) in
-    let ended = λ (fits : Bool). gives (unless fits here TooMany) (counts (record { names = names; nodes = before })) in
+    let ended = λ (fits : Bool). gives (unless fits here TooMany) (counts (drafted names b)) in
     ap (λ b. ended (b && nat_le (last_named before + named) 256)) (lt-ltb (length (last_items before)) 64 low)
-    ∙ ap ended (le-leb (last_named before + named) 256 few) ∙ ap (λ c. Ok (tt, c)) (counts-at_last names _ (λ node. refl) nodes)
+    ∙ ap ended (le-leb (last_named before + named) 256 few) ∙ ap (λ c. Ok (tt, c)) (counts-at_last names _ (λ node. refl) b)
 
-pub item_refused : (here : Spot) (names : List (List ℕ)) (nodes : List FlatNode) (it : FlatItem) (named : ℕ) → named ≡ length (option_to_list it.name) → is_item_refused nodes it ≡ true
-    → gives (unless (within_limits (length (last_items (map (placed_node names) nodes))) (last_named (map (placed_node names) nodes) + named)) here TooMany) (counts (record { names = names; nodes = map (placed_node names) nodes }))
+pub item_refused : (here : Spot) (names : List (List ℕ)) (b : Built) (it : FlatItem) (named : ℕ) → named ≡ length (option_to_list it.name) → is_item_refused b.nodes it ≡ true
+    → gives (unless (within_limits (length (last_items (map (placed_node names) b.nodes))) (last_named (map (placed_node names) b.nodes) + named)) here TooMany) (counts (drafted names b))
     ≡ Err (record { at = here.at; why = TooMany })
-item_refused here names nodes it named is refused =
-    ap (λ fits. gives (unless fits here TooMany) (counts (record { names = names; nodes = before })))
-    (go (nat_le 64 (length (flat.last_items nodes))) refl it.name is refused)
+item_refused here names b it named is refused =
+    ap (λ fits. gives (unless fits here TooMany) (counts (drafted names b))) (go (nat_le 64 (length (flat.last_items nodes))) refl it.name is refused)
   where
+    nodes : List FlatNode
+    nodes = b.nodes
+
     before : List Placed
     before = map (placed_node names) nodes
 

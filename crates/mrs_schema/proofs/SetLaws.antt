@@ -31,9 +31,9 @@ set_is isa before here k chosen is_set is =
     ∙ ap (λ (w : Walk Bool). w >>> set_of here) is
 
 -- the chosen set is put
-pub set_returns : {old new : Drafted} (isa : List ℕ) (before : List (Option Node)) (here : Spot) (k : Kind) (found : Bool) → kind (kind_named (Set ∷ [])) here ≡ Done k → is_chosen isa before here ≡ Done true → (found && true) ≡ false → (found ≡ false → old.nodes ≡ [])
+pub set_returns : (old new : Drafted) (isa : List ℕ) (before : List (Option Node)) (here : Spot) (k : Kind) (found : Bool) → kind (kind_named (Set ∷ [])) here ≡ Done k → is_chosen isa before here ≡ Done true → (found && true) ≡ false → (found ≡ false → old.nodes ≡ [])
     → Ends (whole Set 0 here) (counts old) (counts new) (λ n. new.nodes ≡ old.nodes ++ preorder None (length old.nodes) n) → Ends (set isa before here) (counts old) (counts new) (λ n. IsSetPut found true old.nodes new.nodes n)
-set_returns {old} {new} isa before here k found is_set is once bare e = record {
+set_returns old new isa before here k found is_set is once bare e = record {
   value = Some e.value;
   walked = ap (λ w. gives w (counts old)) (set_is isa before here k true is_set is) ∙ gives-next (whole Set 0 here) (λ n. Done (Some n)) (counts old) (counts new) e.value e.walked;
   stands = record { is = refl; once = once; nodes = e.stands ∙ ap (λ nodes. nodes ++ preorder None (length nodes) e.value) (bare (first found once)) };

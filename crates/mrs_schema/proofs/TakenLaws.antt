@@ -10,11 +10,12 @@ use Rattle.spec_walk.specs.Event.{TooMany, Fault}
 use Rattle.spec_walk.specs.Limits.{Counts, ◌>>=◌}
 use Rattle.spec_walk.specs.Walk.{Done, gives}
 use Rattle.spec_walk.specs.Spot.{Spot, named}
-use Rattle.mrs_names.specs.Texts.{place_of, with_name, is_refused, AreDistinct}
+use Rattle.mrs_names.specs.Texts.{IsExtended, place_of, with_name, is_refused, AreDistinct}
 use Rattle.mrs_names.proofs.PlaceLaws.{place_of-at, with_name-new, with_name-held}
-use Rattle.mrs_arena.specs.Flat.{FlatItem}
-use Rattle.mrs_arena.specs.Placed.{text_of, item_of, Placed, IsHeldItem}
-use Rattle.mrs_schema.specs.Drafted.{counts}
+use Rattle.mrs_arena.specs.Flat.{FlatItem, Built}
+use Rattle.mrs_arena.specs.Placed.{text_of, item_of, placed_node, IsHeldItem}
+use Rattle.mrs_arena.proofs.HeldLaws.{placed-extended, exprs-extended, AreHeld-extended, AreHeldExprs-extended}
+use Rattle.mrs_schema.specs.Drafted.{Drafted, drafted, IsHeld, counts}
 use Rattle.spec_instructions.specs.Encodeset.{names_of}
 
 -- ---- one more name
@@ -54,24 +55,35 @@ name_step-is here text c = ap (λ b. step b (nat_le 4194304 (length c.held))) (h
     go None true = refl
     go None false = refl
 
-pub name_taken : (here : Spot) (text : List ℕ) (names : List (List ℕ)) (nodes : List Placed) → is_refused text names ≡ false
-    → gives (named here text) (counts (record { names = names; nodes = nodes })) ≡ Ok (text, counts (record { names = with_name text names; nodes = nodes }))
-name_taken here text names nodes room = name_step-is here text (counts (record { names = names; nodes = nodes })) ∙ go (place_of text names) refl (nat_le 4194304 (length names)) room
-  where
-    go : (o : Option ℕ) → place_of text names ≡ o → (full : Bool) → (is_none o && full) ≡ false
-        → name_step here text o full (counts (record { names = names; nodes = nodes })) ≡ Ok (text, counts (record { names = with_name text names; nodes = nodes }))
-    go (Some k) e full h = ap (λ ns. Ok (text, counts (record { names = ns; nodes = nodes }))) (sym (with_name-held text names k e))
-    go None e true h = absurd (cc)
-    go None e false h = ap (λ ns. Ok (text, counts (record { names = ns; nodes = nodes }))) (sym (with_name-new text names e))
+-- with more names
+abbrev pub more_names : Drafted → List (List ℕ) → Drafted
+more_names d names = record d { names = names }
 
-pub name_refused : (here : Spot) (text : List ℕ) (names : List (List ℕ)) (nodes : List Placed) → is_refused text names ≡ true
-    → gives (named here text) (counts (record { names = names; nodes = nodes })) ≡ Err (record { at = here.at; why = TooMany })
-name_refused here text names nodes refused = name_step-is here text (counts (record { names = names; nodes = nodes })) ∙ go (place_of text names) (nat_le 4194304 (length names)) refused
+pub name_taken : (here : Spot) (text : List ℕ) (d : Drafted) → is_refused text d.names ≡ false → gives (named here text) (counts d) ≡ Ok (text, counts (more_names d (with_name text d.names)))
+name_taken here text d room = name_step-is here text (counts d) ∙ go (place_of text d.names) refl (nat_le 4194304 (length d.names)) room
   where
-    go : (o : Option ℕ) (full : Bool) → (is_none o && full) ≡ true → name_step here text o full (counts (record { names = names; nodes = nodes })) ≡ Err (record { at = here.at; why = TooMany })
+    go : (o : Option ℕ) → place_of text d.names ≡ o → (full : Bool) → (is_none o && full) ≡ false → name_step here text o full (counts d) ≡ Ok (text, counts (more_names d (with_name text d.names)))
+    go (Some k) e full h = ap (λ ns. Ok (text, counts (more_names d ns))) (sym (with_name-held text d.names k e))
+    go None e true h = absurd (cc)
+    go None e false h = ap (λ ns. Ok (text, counts (more_names d ns))) (sym (with_name-new text d.names e))
+
+pub name_refused : (here : Spot) (text : List ℕ) (d : Drafted) → is_refused text d.names ≡ true → gives (named here text) (counts d) ≡ Err (record { at = here.at; why = TooMany })
+name_refused here text d refused = name_step-is here text (counts d) ∙ go (place_of text d.names) (nat_le 4194304 (length d.names)) refused
+  where
+    go : (o : Option ℕ) (full : Bool) → (is_none o && full) ≡ true → name_step here text o full (counts d) ≡ Err (record { at = here.at; why = TooMany })
     go (Some k) full h = absurd (cc)
     go None true h = refl
     go None false h = absurd (cc)
+
+-- what was put stands for the same when names are added
+pub drafted-extended : (old new : List (List ℕ)) (b : Built) → IsExtended old new → IsHeld old b → drafted new b ≡ more_names (drafted old b) new
+drafted-extended old new b extended held =
+    let d = drafted new b in
+    ap (λ nodes. record d { nodes = nodes }) (placed-extended old new b.nodes extended held.nodes)
+    ∙ ap (λ exprs. record d { nodes = map (placed_node old) b.nodes; exprs = exprs }) (exprs-extended old new b.exprs extended held.exprs)
+
+pub IsHeld-extended : (old new : List (List ℕ)) (b : Built) → IsExtended old new → IsHeld old b → IsHeld new b
+IsHeld-extended old new b extended held = record { nodes = AreHeld-extended old new b.nodes extended held.nodes; exprs = AreHeldExprs-extended old new b.exprs extended held.exprs }
 
 pub text_of-place : (text : List ℕ) (names : List (List ℕ)) (id : ℕ) → place_of text names ≡ Some id → text_of names id ≡ text
 text_of-place text names id place = get_or_from_slice_get names id text [] (place_of-at text names id place)

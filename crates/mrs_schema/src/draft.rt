@@ -1,53 +1,55 @@
-//! What a walk has put so far: names and nodes.
+//! What a walk has put so far: names, nodes and expressions.
 
-use mrs_arena::{Arena, ArenaBuilder, BuildFault, Item, Kind, NodeId};
+use mrs_arena::{Arena, ArenaBuilder, BuildFault, Expr, ExprId, ExprList, Item, Kind, NodeId};
 use mrs_names::{NameFault, NameId, Names};
 use mrs_walk::{Here, ReadFault, Why};
 use std::alloc::Global;
 use std::marker::Model;
 
-/// The names and nodes that a walk over a document has put so far. Contracts see the nodes with the texts of their names.
+/// The names, nodes and expressions that a walk over a document has put so far. Contracts see the texts of names.
 #[derive(Drop)]
 pub(crate) struct Draft {
     names: Names,
-    nodes: ArenaBuilder,
+    builder: ArenaBuilder,
 }
 
 impl Model for Draft {
-    ghost use Rattle.std.specs.Prelude.{map};
-    ghost use Rattle.mrs_arena.specs.Placed.{placed_node, AreHeld};
-    ghost use Rattle.mrs_schema.specs.Drafted.{Drafted};
+    ghost use Rattle.mrs_schema.specs.Drafted.{Drafted, drafted, IsHeld};
+    ghost use Rattle.mrs_schema.specs.Codes.{drafted_code};
 
     ghost Value = { Drafted };
 
-    ghost view = { λ d. record { names = d.names; nodes = map (placed_node d.names) d.nodes } };
+    ghost coded = { drafted_code };
 
-    ghost invariant = { λ d. AreHeld d.names d.nodes };
+    ghost view = { λ d. drafted d.names d.builder };
+
+    ghost invariant = { λ d. IsHeld d.names d.builder };
 }
 
 impl Draft {
-    ghost use Rattle.std.specs.Prelude.{◌≡◌, ◌+◌, ◌<◌, [], ◌∷◌, ◌++◌, length, map, option_map, option_to_list, IfSome, bytes_eq, is_some, false};
+    ghost use Rattle.std.specs.Prelude.{◌≡◌, ◌+◌, ◌<◌, ◌≤◌, All, Some, [], ◌∷◌, ◌++◌, length, map, option_map, option_to_list, IfSome, bytes_eq, is_some, false};
     ghost use Rattle.std.specs.List.{list_any};
-    ghost use Rattle.spec_walk.specs.Event.{TooMany};
-    ghost use Rattle.spec_walk.specs.Spot.{named, unless};
+    ghost use Rattle.spec_walk.specs.Event.{TooMany, AnExpression};
+    ghost use Rattle.spec_walk.specs.Spot.{named, unless, one_more};
     ghost use Rattle.spec_instructions.specs.Encodeset.{within_limits, names_of};
     ghost use Rattle.spec_instructions.specs.Tree.{bare};
     ghost use Rattle.spec_instructions.specs.Walk.{counted};
     ghost use Rattle.mrs_names.specs.Texts.{IsExtended};
     ghost use Rattle.mrs_arena.specs.Paths.{IsPlace};
-    ghost use Rattle.mrs_arena.specs.Placed.{text_of, item_of, kind_of, placed_node, AreHeld};
+    ghost use Rattle.mrs_arena.specs.Placed.{text_of, item_of, kind_of, placed_node, expr_of, AreHeld};
     ghost use Rattle.mrs_arena.specs.Views.{flat_item};
-    ghost use Rattle.mrs_schema.specs.Drafted.{counts, parents, last_items, last_named, with_items};
+    ghost use Rattle.mrs_arena.specs.Expressions.{expr_at, made_by, with_list, HasParts, HasName};
+    ghost use Rattle.mrs_schema.specs.Drafted.{counts, nothing, parents, last_items, last_named, with_items, with_condition};
     ghost use Rattle.mrs_walk.specs.Gives.{Puts};
     ghost use Rattle.mrs_walk.specs.Here.{spot_of};
 
-    /// No nodes yet, behind these names.
+    /// No nodes and no expressions yet, behind these names.
     pub fn new(alloc: Global, names: Names) -> Draft
-        ensures { result ≡ record { names = names; nodes = [] } }
+        ensures { result ≡ record { names = names; nodes = []; exprs = []; parts = [] } }
     {
         Draft {
             names,
-            nodes: ArenaBuilder::new(alloc),
+            builder: ArenaBuilder::new(alloc),
         }
     }
 
@@ -56,6 +58,8 @@ impl Draft {
         ensures steps { Puts result (named (spot_of here.now) text.now) (counts self.old) (counts self.new)
             (λ t id. (id.0 < length self.new.names) × (text_of self.new.names id.0 ≡ t)) }
         ensures nodes { self.new.nodes ≡ self.old.nodes }
+        ensures exprs { self.new.exprs ≡ self.old.exprs }
+        ensures parts { self.new.parts ≡ self.old.parts }
         ensures kept { IsExtended self.old.names self.new.names }
     {
         match self.names.intern(text) {
@@ -83,8 +87,10 @@ impl Draft {
               own = bare (kind_of kind) (text_of self.old.names name.0);
             } ∷ [])) }
         ensures names { self.new.names ≡ self.old.names }
+        ensures exprs { self.new.exprs ≡ self.old.exprs }
+        ensures parts { self.new.parts ≡ self.old.parts }
     {
-        match self.nodes.node(kind, name, parent) {
+        match self.builder.node(kind, name, parent) {
             Ok(id) => return Ok(id),
             Err(BuildFault::NoMemory) => return Err(ReadFault::NoMemory),
             Err(BuildFault::TooMany) => {}
@@ -100,15 +106,64 @@ impl Draft {
         ensures steps { Puts result (unless (within_limits (length (last_items self.old.nodes)) (last_named self.old.nodes + length (option_to_list it.name))) (spot_of here.now) TooMany)
             (counts self.old) (counts self.new) (λ _ _. self.new.nodes ≡ with_items (item_of self.old.names (flat_item it) ∷ []) self.old.nodes) }
         ensures names { self.new.names ≡ self.old.names }
+        ensures exprs { self.new.exprs ≡ self.old.exprs }
+        ensures parts { self.new.parts ≡ self.old.parts }
     {
         // `len` tells that names differ, so a text that is free has a number that is.
         let _count = self.names.len();
-        match self.nodes.item(it) {
+        match self.builder.item(it) {
             Ok(()) => return Ok(()),
             Err(BuildFault::NoMemory) => return Err(ReadFault::NoMemory),
             Err(BuildFault::TooMany) => {}
         }
         Err(here.fault(Why::TooMany))
+    }
+
+    /// Puts an expression, whose parts were put before. Its object is at the place.
+    pub fn expr(&mut self, e: Expr, here: &Here<'_>) -> Result<ExprId, ReadFault>
+        requires parts { HasParts (length self.old.exprs) self.old.parts e }
+        requires held { HasName (length self.old.names) e }
+        ensures steps { Puts result (one_more AnExpression (spot_of here.now)) (counts self.old) (counts self.new)
+            (λ _ id. (id.0 ≡ length self.old.exprs)
+            × (self.new.exprs ≡ self.old.exprs ++ made_by (text_of self.old.names) (expr_at self.old.exprs) self.old.parts e ∷ [])) }
+        ensures names { self.new.names ≡ self.old.names }
+        ensures nodes { self.new.nodes ≡ self.old.nodes }
+        ensures parts { self.new.parts ≡ self.old.parts }
+    {
+        match self.builder.expr(e) {
+            Ok(id) => return Ok(id),
+            Err(BuildFault::NoMemory) => return Err(ReadFault::NoMemory),
+            Err(BuildFault::TooMany) => {}
+        }
+        Err(here.fault(Why::TooMany))
+    }
+
+    /// Puts a list of expressions, which were put before. All lists together have no more parts than there are
+    /// expressions, so no limit is passed.
+    pub fn list(&mut self, parts: &[ExprId]) -> Result<ExprList, ReadFault>
+        requires parts { All (λ part. part.0 < length self.old.exprs) parts.now }
+        requires few { length self.old.parts + length parts.now ≤ length self.old.exprs }
+        ensures steps { Puts result nothing (counts self.old) (counts self.new)
+            (λ _ list. (list.from ≡ length self.old.parts)
+            × ((list.len ≡ length parts.now) × (self.new.parts ≡ with_list parts.now self.old.parts))) }
+        ensures names { self.new.names ≡ self.old.names }
+        ensures nodes { self.new.nodes ≡ self.old.nodes }
+        ensures exprs { self.new.exprs ≡ self.old.exprs }
+    {
+        // The limit on parts is that on expressions, so only want of memory is left.
+        let Ok(list) = self.builder.list(parts) else {
+            return Err(ReadFault::NoMemory);
+        };
+        Ok(list)
+    }
+
+    /// Sets the condition of the last node.
+    pub fn condition(&mut self, e: ExprId)
+        requires some { 0 < length self.old.nodes }
+        requires put { e.0 < length self.old.exprs }
+        ensures { self.new ≡ record self.old { nodes = with_condition (Some (expr_at self.old.exprs e.0)) self.old.nodes } }
+    {
+        self.builder.condition(e);
     }
 
     /// Whether an item of the last node has that name.
@@ -118,18 +173,19 @@ impl Draft {
         // `len` tells that names differ, so the text is that of an item where its number is.
         let _count = self.names.len();
         match self.names.find(text) {
-            Some(name) => self.nodes.is_taken(name),
+            Some(name) => self.builder.is_taken(name),
             None => false,
         }
     }
 
-    /// The names, and the nodes that were put.
+    /// The names, and the nodes and expressions that were put.
     pub fn close(self) -> (Names, Arena)
         ensures names { result.0 ≡ self.names }
-        ensures nodes { map (placed_node self.names) result.1 ≡ self.nodes }
-        ensures held { AreHeld self.names result.1 }
+        ensures nodes { map (placed_node self.names) result.1.nodes ≡ self.nodes }
+        ensures exprs { map (expr_of self.names) result.1.exprs ≡ self.exprs }
+        ensures held { AreHeld self.names result.1.nodes }
     {
-        let Draft { names, nodes } = self;
-        (names, nodes.close())
+        let Draft { names, builder } = self;
+        (names, builder.close())
     }
 }

@@ -3,22 +3,23 @@
 ghost use Rattle.std.specs.Prelude.{◌≡◌, ◌++◌, ◌<◌, [], ◌∷◌, Some, None, codes, length, option_map, unwrap_or};
 ghost use Rattle.spec_walk.specs.Spot.{kind, optional};
 ghost use Rattle.spec_walk.specs.Descend.{at_spot};
+ghost use Rattle.spec_expressions.specs.Reading.{expression};
 ghost use Rattle.spec_instructions.specs.Kind.{Group, Leaf, kinds_in, kind_named};
 ghost use Rattle.spec_instructions.specs.Encodeset.{encodeset};
-ghost use Rattle.spec_instructions.specs.Walk.{node_name, condition, own, child, nodes_of};
+ghost use Rattle.spec_instructions.specs.Walk.{node_name, own, child, nodes_of};
 ghost use Rattle.mrs_names.specs.Texts.{IsExtended};
 ghost use Rattle.mrs_arena.specs.Paths.{IsPlace};
 ghost use Rattle.mrs_arena.specs.Placed.{kind_of, preorder, preorders};
 ghost use Rattle.mrs_walk.specs.Gives.{Gives, Puts};
 ghost use Rattle.mrs_walk.specs.Here.{spot_of};
-ghost use Rattle.mrs_schema.specs.Drafted.{counts, parents, named_at, last_items, last_named, with_items};
+ghost use Rattle.mrs_schema.specs.Drafted.{counts, parents, named_at, last_items, last_named, with_items, with_condition};
 ghost use Rattle.mrs_schema.specs.Kinds.{child_kind_of};
 ghost use Rattle.mrs_schema.specs.Nodes.{children, whole, named_above};
 
 use crate::draft::Draft;
 use crate::items::read_encodeset;
-use crate::names::is_name;
 use mrs_arena::{Kind, NodeId};
+use mrs_names::is_name;
 use mrs_walk::{Here, ReadFault, Why};
 
 /// What stands in the `children` of a node.
@@ -147,7 +148,7 @@ fn kind_in_leaf(text: &str) -> Option<ChildKind>
     }
 }
 
-/// What a node says of itself: it is put below a node, or alone, with the items of its encodeset.
+/// What a node says of itself: it is put below a node, or alone, with the items of its encodeset and its condition.
 #[tactic(auto, using(crate::proofs::KeptLaws::kept))]
 fn read_own(
     here: &Here<'_>,
@@ -166,7 +167,7 @@ fn read_own(
     let name = draft.name(text, here)?;
     let node = draft.node(kind, name, parent, here)?;
     read_encoding(here, draft)?;
-    refuse_condition(here)?;
+    read_condition(here, draft)?;
     Ok(node)
 }
 
@@ -198,9 +199,14 @@ fn read_encoding(here: &Here<'_>, draft: &mut Draft) -> Result<(), ReadFault>
     }
 }
 
-/// A condition is not read yet.
-fn refuse_condition(here: &Here<'_>) -> Result<(), ReadFault>
-    ensures { Gives result (optional (codes "condition") condition (spot_of here.now)) (λ _. None) }
+/// The condition of the last node, if it has one.
+#[tactic(auto, using(crate::proofs::KeptLaws::kept))]
+fn read_condition(here: &Here<'_>, draft: &mut Draft) -> Result<(), ReadFault>
+    requires { 0 < length draft.old.nodes }
+    ensures walk { Puts result (optional (codes "condition") expression (spot_of here.now))
+        (counts draft.old) (counts draft.new)
+        (λ condition _. draft.new.nodes ≡ with_condition condition draft.old.nodes) }
+    ensures kept { IsExtended draft.old.names draft.new.names }
 {
     match here.optional("condition") {
         None => Ok(()),

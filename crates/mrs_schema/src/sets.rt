@@ -15,9 +15,9 @@ ghost use Rattle.mrs_schema.specs.Drafted.{counts};
 ghost use Rattle.mrs_schema.specs.Nodes.{IsSetPut};
 
 use crate::draft::Draft;
-use crate::names::is_name;
 use crate::nodes::read_node;
 use mrs_arena::Kind;
+use mrs_names::is_name;
 use mrs_walk::{Here, ReadFault, Why};
 
 /// An Instructions document, of which the set named `isa` is chosen. Its nodes are put.

@@ -28,7 +28,7 @@ no_equals = refl
 empty_key : request (codes "list" ∷ codes "=x" ∷ []) ≡ Err 1
 empty_key = refl
 
-first_equals : request (codes "list" ∷ codes "insns=a=b" ∷ []) ≡ Ok (AskList (record { insns = codes "a=b"; isa = codes "A64" }))
+first_equals : request (codes "list" ∷ codes "insns=a=b" ∷ []) ≡ Ok (AskList (record { insns = codes "a=b"; isa = codes "A64" }) [])
 first_equals = refl
 
 no_label : request (codes "leaf" ∷ codes "insns=i" ∷ []) ≡ Err 2
@@ -49,6 +49,17 @@ no_log = refl
 
 set_alone : request (codes "list" ∷ codes "isa=X" ∷ []) ≡ Err 2
 set_alone = refl
+
+-- several words may have the key of a pin, also with one value
+pins : request (codes "list" ∷ codes "on=B" ∷ codes "insns=i" ∷ codes "on=A" ∷ codes "on=B" ∷ [])
+    ≡ Ok (AskList (record { insns = codes "i"; isa = codes "A64" }) (codes "B" ∷ codes "A" ∷ codes "B" ∷ []))
+pins = refl
+
+no_name : request (codes "list" ∷ codes "insns=i" ∷ codes "on=A" ∷ codes "on=a#b" ∷ []) ≡ Err 3
+no_name = refl
+
+no_pins_of_a_leaf : request (codes "leaf" ∷ codes "insns=i" ∷ codes "label=x" ∷ codes "on=A" ∷ []) ≡ Err 3
+no_pins_of_a_leaf = refl
 
 -- a bad word comes before a missing key
 bad_before_missing : request (codes "list" ∷ codes "isa=X" ∷ codes "label=x" ∷ []) ≡ Err 2

@@ -1,8 +1,8 @@
--- What is asked of settings: keys, each once, and a value by what the settings say of them. The keys and the value are put together
+-- What is asked of settings: keys, and a value by what the settings say of them. The keys and the value are put together
 -- in one go, so that a command has just the keys that its request is made of.
 use Rattle.std.specs.Prelude.{ℕ, List, [], ◌∷◌, ◌++◌, Option, Some, option_map, unwrap_or}
 use Rattle.std.specs.Option.{option_and_then}
-use Rattle.spec_command.specs.Setting.{value_in}
+use Rattle.spec_command.specs.Setting.{value_in, values_in}
 
 -- the keys, and the value by the settings; there is none where a needed key is missing
 pub record Ask (A : Type 0) : Type 0 where
@@ -16,6 +16,10 @@ needed key = record { keys = key ∷ []; value = λ settings. value_in key setti
 -- a key that may be missing, and then says this
 abbrev pub may_say : List ℕ → List ℕ → Ask (List ℕ)
 may_say key text = record { keys = key ∷ []; value = λ settings. Some (unwrap_or (value_in key settings) text) }
+
+-- a key that any number of settings may have: their values in order
+abbrev pub every : List ℕ → Ask (List (List ℕ))
+every key = record { keys = key ∷ []; value = λ settings. Some (values_in key settings) }
 
 -- what is asked, made into another value
 abbrev pub made_into : {A B : Type 0} → (A → B) → Ask A → Ask B

@@ -1,6 +1,8 @@
 -- The commands: the word that says each, its keys, and what it asks for. The rules are this project's own.
-use Rattle.std.specs.Prelude.{ℕ, Bool, true, List, [], ◌∷◌, codes}
-use Rattle.spec_command.specs.Ask.{Ask, needed, may_say, made_into, together}
+use Rattle.std.specs.Prelude.{ℕ, Bool, not, ◌||◌, List, [], ◌∷◌, codes, bytes_eq}
+use Rattle.std.specs.List.{list_any}
+use Rattle.spec_names.specs.Name.{is_name}
+use Rattle.spec_command.specs.Ask.{Ask, needed, may_say, every, made_into, together}
 
 -- the set of instructions of a document: the document's name, and that of the set
 pub record Release : Type 0 where
@@ -9,7 +11,8 @@ pub record Release : Type 0 where
 
 -- what a command asks for: one value for each command
 pub data Request : Type 0 where
-  AskList : Release → Request
+  -- with the names of the features that are on, in the order of the words
+  AskList : Release → List (List ℕ) → Request
   AskLeaf : Release → List ℕ → Request
   AskProof : List ℕ → Request
 
@@ -24,7 +27,7 @@ release = together (λ insns isa. record { insns = insns; isa = isa }) (needed (
 
 -- lists the words of a stream
 abbrev pub list_command : Command
-list_command = record { word = codes "list"; asks = made_into AskList release }
+list_command = record { word = codes "list"; asks = together AskList release (every (codes "on")) }
 
 -- shows one leaf
 abbrev pub leaf_command : Command
@@ -37,10 +40,18 @@ proof_command = record { word = codes "proof"; asks = made_into AskProof (needed
 abbrev pub commands : List Command
 commands = list_command ∷ leaf_command ∷ proof_command ∷ []
 
--- the keys that several words may have: none
-abbrev pub repeatable : List (List ℕ)
-repeatable = []
+-- the keys of pins: words that settle features. Several words may have such a key
+abbrev pub pin_keys : List (List ℕ)
+pin_keys = codes "on" ∷ []
 
--- whether a key takes a value that is not empty: each key takes any text
+-- the most pins
+abbrev pub pin_limit : ℕ
+pin_limit = 4096
+
+-- whether a key is one of some
+abbrev pub is_one_of : List (List ℕ) → List ℕ → Bool
+is_one_of keys key = list_any (λ one. bytes_eq one key) keys
+
+-- whether a key takes a value that is not empty: that of a pin takes a name, and any other key any text
 abbrev pub takes : List ℕ → List ℕ → Bool
-takes key value = true
+takes key value = not (is_one_of pin_keys key) || is_name value

@@ -1,20 +1,21 @@
 -- What the words of a command line ask for, or the place of the first bad word. Places count the words from 0. The rules are this project's own.
-use Rattle.std.specs.Prelude.{ℕ, ◌+◌, Bool, false, not, ◌&&◌, ◌||◌, ◌==◌, List, [], ◌∷◌, length, take, slice_index_or, Option, Some, None, is_none, bytes_eq, Result, Ok, Err}
-use Rattle.std.specs.List.{find, list_any, range_with_len}
+use Rattle.std.specs.Prelude.{ℕ, ◌+◌, Bool, false, not, ◌&&◌, ◌==◌, nat_lt, List, [], ◌∷◌, length, take, slice_index_or, count_by, Option, Some, None, is_none, option_map, unwrap_or, bytes_eq, if◌then◌else◌, Result, Ok, Err}
+use Rattle.std.specs.List.{find, range_with_len}
 use Rattle.spec_command.specs.Setting.{setting_in, settings_in, value_in}
-use Rattle.spec_command.specs.Commands.{Request, Command, commands, repeatable, takes}
+use Rattle.spec_command.specs.Commands.{Request, Command, commands, pin_keys, pin_limit, is_one_of, takes}
 
-abbrev pub is_one_of : List (List ℕ) → List ℕ → Bool
-is_one_of texts text = list_any (λ one. bytes_eq one text) texts
+-- whether a word is a pin
+abbrev pub is_pin : List ℕ → Bool
+is_pin word = unwrap_or (option_map (λ pair. is_one_of pin_keys pair.0) (setting_in word)) false
 
--- a key is new behind earlier words if none of them has it; a key that several words may have always is
-abbrev pub is_new : List (List ℕ) → List ℕ → Bool
-is_new earlier key = is_one_of repeatable key || is_none (value_in key (settings_in earlier))
+-- there is room for a key behind earlier words if none of them has it; for that of a pin, if fewer of them are pins than may be
+abbrev pub has_room : List (List ℕ) → List ℕ → Bool
+has_room earlier key = if is_one_of pin_keys key then nat_lt (count_by is_pin earlier) pin_limit else is_none (value_in key (settings_in earlier))
 
--- a word is good behind earlier words if it is a setting whose key is one of the command's, whose key is new, and whose value is not empty and one that the key takes
+-- a word is good behind earlier words if it is a setting whose key is one of the command's, for whose key there is room, and whose value is not empty and one that the key takes
 abbrev pub is_good : List (List ℕ) → List (List ℕ) → Option (List ℕ × List ℕ) → Bool
 is_good keys earlier None = false
-is_good keys earlier (Some pair) = takes pair.0 pair.1 && (not (length pair.1 == 0) && (is_one_of keys pair.0 && is_new earlier pair.0))
+is_good keys earlier (Some pair) = takes pair.0 pair.1 && (not (length pair.1 == 0) && (is_one_of keys pair.0 && has_room earlier pair.0))
 
 -- among the words behind a command, the one at a place is bad if it is not good behind those before it
 abbrev pub is_bad_at : List (List ℕ) → List (List ℕ) → ℕ → Bool

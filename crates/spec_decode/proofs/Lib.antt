@@ -1,4 +1,7 @@
 pub mod FoundLaws
 pub mod VerdictLaws
 pub mod ConditionLaws
+pub mod HoldLaws
+pub mod BucketLaws
 mod Worked
+mod WorkedBuckets

@@ -34,14 +34,14 @@ rest_is above own path g w k t h = record { own = h.own; at = h.at; is = subst (
 
 -- No where one is No
 
-right_no : (t rest : Truth) → conjunction t rest ≡ No → (t ≡ No) ⊎ (rest ≡ No)
+pub right_no : (t rest : Truth) → conjunction t rest ≡ No → (t ≡ No) ⊎ (rest ≡ No)
 right_no Yes rest e = inr e
 right_no No rest e = inl refl
 right_no Open Yes e = absurd cc
 right_no Open No e = inr refl
 right_no Open Open e = absurd cc
 
-no_rest : (t : Truth) → conjunction t No ≡ No
+pub no_rest : (t : Truth) → conjunction t No ≡ No
 no_rest Yes = refl
 no_rest No = refl
 no_rest Open = refl
@@ -81,7 +81,7 @@ yes_from above (own ∷ path) g w h =
 
 -- ---- items
 
-abbrev Fails : ℕ → Item → Type 0
+abbrev pub Fails : ℕ → Item → Type 0
 Fails w it = item_holds it w ≡ false
 
 here_fails : (it : Item) (items : List Item) (w : ℕ) → Fails w it → Any (Fails w) (it ∷ items)
@@ -90,7 +90,7 @@ here_fails it items w e = (0, it, omega arith, refl, e)
 later_fails : (it : Item) (items : List Item) (w : ℕ) → Any (Fails w) items → Any (Fails w) (it ∷ items)
 later_fails it items w h = (suc h.0, h.1, omega (arith, h.2), h.3, h.4)
 
-some_fails : (items : List Item) (w : ℕ) → list_all (λ it. item_holds it w) items ≡ false → Any (Fails w) items
+pub some_fails : (items : List Item) (w : ℕ) → list_all (λ it. item_holds it w) items ≡ false → Any (Fails w) items
 some_fails [] w e = absurd cc
 some_fails (it ∷ items) w e = go (item_holds it w) refl (some_fails items w) e
   where
@@ -98,7 +98,7 @@ some_fails (it ∷ items) w e = go (item_holds it w) refl (some_fails items w) e
     go true is rest e = later_fails it items w (rest e)
     go false is rest e = here_fails it items w is
 
-fails : (items : List Item) (w : ℕ) → Any (Fails w) items → list_all (λ it. item_holds it w) items ≡ false
+pub fails : (items : List Item) (w : ℕ) → Any (Fails w) items → list_all (λ it. item_holds it w) items ≡ false
 fails items w h = list_all_at (λ it. item_holds it w) items h.0 h.1 h.2 (subst (Fails w) (sym h.3) h.4)
 
 -- ---- the verdict

@@ -10,7 +10,7 @@ pub record Candidate : Type 0 where
   pub leaf : ℕ
   pub verdict : Truth
 
--- a leaf of that verdict before others
+-- a leaf of that verdict before others, unless its verdict is No
 abbrev pub with_leaf : ℕ → Truth → List Candidate → List Candidate
 with_leaf k Yes others = record { leaf = k; verdict = Yes } ∷ others
 with_leaf k No others = others

@@ -1,3 +1,4 @@
 pub mod Verdict
 pub mod Found
 pub mod Machine
+pub mod Bucket

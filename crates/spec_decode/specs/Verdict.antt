@@ -18,7 +18,8 @@ path_holds path w = list_all (λ it. item_holds it w) (path_items path)
 abbrev pub condition_truth : List Own → Own → Configuration → ℕ → Truth
 condition_truth above own g w = truth own.condition g (fields (above ++ own ∷ [])) w
 
--- the conditions of the nodes behind those above them, together: No where one is No, Yes where all are Yes, else Open
+-- the conditions of the nodes of a path, which stand behind those above it, joined by And: No where one is No, Yes where all
+-- are Yes, else Open
 abbrev pub conditions_from : List Own → List Own → Configuration → ℕ → Truth
 conditions_from above [] g w = Yes
 conditions_from above (own ∷ path) g w = conjunction (condition_truth above own g w) (conditions_from (above ++ own ∷ []) path g w)

@@ -51,6 +51,7 @@ are_kleene = record {
   and_sides = and_sides;
   not_and = negation-conjunction;
   not_or = negation-disjunction;
+  implies = λ a b. refl;
   iff = equivalence-implications;
 }
   where

@@ -103,7 +103,7 @@ function_with_names f IsFeatureImplemented = IsFeatureImplemented
 function_with_names f (Named name) = Named (f name)
 
 abbrev mutual
-  -- an expression with something else made of each name
+  -- the same expression with `f name` in the place of each name
   pub with_names : {M N : Type 0} → (M → N) → ExprOf M → ExprOf N
   with_names f (Boolean b) = Boolean b
   with_names f (Integer n) = Integer n
@@ -121,7 +121,7 @@ abbrev mutual
   all_with_names f no_exprs = no_exprs
   all_with_names f (expr e es) = expr (with_names f e) (all_with_names f es)
 
--- each name in an expression is as it has to be
+-- each name in an expression satisfies P
 abbrev pub FunctionHasNames : {N : Type 0} → (N → Type 0) → FunctionOf N → Type 0
 FunctionHasNames P UInt = ⊤
 FunctionHasNames P IsZero = ⊤

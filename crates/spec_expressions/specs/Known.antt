@@ -23,23 +23,23 @@ KnownStays = (e : Expr) (g h : Configuration) (fields : List Field) (w : ℕ) �
 -- ---- something in place of Other
 
 abbrev mutual
-  -- one expression is another with anything in the places where that has Other
-  pub Fills : Expr → Expr → Type 0
-  Fills Other f = ⊤
-  Fills (Not e) (Not f) = Fills e f
-  Fills (Binary op e f) (Binary op' e' f') = (op ≡ op') × Fills e e' × Fills f f'
-  Fills (Call name es) (Call name' fs) = (name ≡ name') × AllFill es fs
-  Fills (Set es) (Set fs) = AllFill es fs
-  Fills (Join es) (Join fs) = AllFill es fs
-  Fills (Slice e high low) (Slice e' high' low') = Fills e e' × Fills high high' × Fills low low'
-  Fills e f = e ≡ f
+  -- the second is the first with some expression in the place of each Other
+  pub FilledBy : Expr → Expr → Type 0
+  FilledBy Other f = ⊤
+  FilledBy (Not e) (Not f) = FilledBy e f
+  FilledBy (Binary op e f) (Binary op' e' f') = (op ≡ op') × FilledBy e e' × FilledBy f f'
+  FilledBy (Call name es) (Call name' fs) = (name ≡ name') × AllFilledBy es fs
+  FilledBy (Set es) (Set fs) = AllFilledBy es fs
+  FilledBy (Join es) (Join fs) = AllFilledBy es fs
+  FilledBy (Slice e high low) (Slice e' high' low') = FilledBy e e' × FilledBy high high' × FilledBy low low'
+  FilledBy e f = e ≡ f
 
-  pub AllFill : Exprs → Exprs → Type 0
-  AllFill no_exprs no_exprs = ⊤
-  AllFill no_exprs (expr f fs) = ⊥
-  AllFill (expr e es) no_exprs = ⊥
-  AllFill (expr e es) (expr f fs) = Fills e f × AllFill es fs
+  pub AllFilledBy : Exprs → Exprs → Type 0
+  AllFilledBy no_exprs no_exprs = ⊤
+  AllFilledBy no_exprs (expr f fs) = ⊥
+  AllFilledBy (expr e es) no_exprs = ⊥
+  AllFilledBy (expr e es) (expr f fs) = FilledBy e f × AllFilledBy es fs
 
 -- a value that is not Open rests on no Other: it stays as it is, whatever those objects may mean
 abbrev pub RestsOnNoOther : Type 0
-RestsOnNoOther = (e f : Expr) (g : Configuration) (fields : List Field) (w : ℕ) → Fills e f → Stays (value e g fields w) (value f g fields w)
+RestsOnNoOther = (e f : Expr) (g : Configuration) (fields : List Field) (w : ℕ) → FilledBy e f → Stays (value e g fields w) (value f g fields w)

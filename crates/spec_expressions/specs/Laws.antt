@@ -21,7 +21,8 @@ use Rattle.spec_expressions.specs.Operations.{Value, equal}
 
 -- Kleene's strong tables, and no others: of truths that are known they say what is said of Booleans; a No decides an And
 -- whatever the other side is, a Yes leaves it to the other side, a truth And itself is that truth, and sides may change
--- places; And and Or are each other's mirror, and two truths are equal where each implies the other
+-- places; And and Or are each other's mirror; an implication is the Or of its left side's Not and its right side, and two truths
+-- are equal where each implies the other
 pub record AreKleene : Type 0 where
   pub not_known : (a : Bool) → negation (truth_of a) ≡ truth_of (not a)
   pub and_known : (a b : Bool) → conjunction (truth_of a) (truth_of b) ≡ truth_of (a && b)
@@ -33,6 +34,7 @@ pub record AreKleene : Type 0 where
   pub and_sides : (a b : Truth) → conjunction a b ≡ conjunction b a
   pub not_and : (a b : Truth) → negation (conjunction a b) ≡ disjunction (negation a) (negation b)
   pub not_or : (a b : Truth) → negation (disjunction a b) ≡ conjunction (negation a) (negation b)
+  pub implies : (a b : Truth) → implication a b ≡ disjunction (negation a) b
   pub iff : (a b : Truth) → equivalence a b ≡ conjunction (implication a b) (implication b a)
 
 -- ---- values

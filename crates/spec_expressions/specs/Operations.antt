@@ -40,7 +40,7 @@ abbrev pub compared : (ℤ → ℤ → Bool) → Value → Value → Truth
 compared test (ANumber x) (ANumber y) = truth_of (test x y)
 compared test a b = Open
 
--- whether a value is equal to one of these: the Or of `==` over them, which is No where there is none
+-- whether a value is equal to one of these: the Or of `==` over them, which is No for an empty list
 abbrev pub among : Value → List Value → Truth
 among v [] = No
 among v (x ∷ xs) = disjunction (equal v x) (among v xs)
@@ -66,12 +66,12 @@ binary Member a b elements = member a elements
 
 -- ---- bits
 
--- the number of bits without `x`, of which there are at most 64
+-- the number that bits write, where they are at most 64 and none of them is `x`
 abbrev pub unsigned : Value → Value
 unsigned (APattern ds) = if nat_le (length ds) 64 then number_or_open (number_of ds) else ATruth Open
 unsigned v = ATruth Open
 
--- whether all bits without `x` are 0, or are 1
+-- of bits none of which is `x`, whether all are 0, or all are 1; else Open
 abbrev pub all_are : ℕ → Value → Truth
 all_are bit (APattern ds) = each_is bit ds
 all_are bit v = Open
@@ -88,6 +88,7 @@ abbrev pub in_a_row : List Value → Value
 in_a_row [] = ATruth Open
 in_a_row (v ∷ vs) = bits_or_open (option_and_then (λ ds. if nat_le (length ds) 128 then Some ds else None) (digits_in_a_row (v ∷ vs)))
 
+-- bits from a high number down to a low one
 abbrev pub sliced : Value → Value → Value → Value
 sliced (APattern ds) (ANumber high) (ANumber low) = bits_or_open (digits_between high low ds)
 sliced v high low = ATruth Open

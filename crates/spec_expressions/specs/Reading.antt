@@ -24,11 +24,12 @@ function_at here IsOnes = Done IsOnes
 function_at here IsFeatureImplemented = Done IsFeatureImplemented
 function_at here (Named s) = named here s >>> λ _. Done (Named s)
 
--- the argument of a square operator, or a member of it: by the operator's shape there is one
+-- the one expression of a list, where there is one
 abbrev pub sole : List Expr → Expr
 sole [] = Other
 sole (e ∷ es) = e
 
+-- the argument of a square operator, or a member of it: by the operator's shape there is one
 abbrev pub argument : Wanted → Inside Wanted Expr → Walk Expr
 argument wanted inside = inside.parts wanted (codes "arguments") >>> λ es. Done (sole es)
 

@@ -86,7 +86,8 @@ index_shape d =
     if says (codes "_type") (codes "AST.Slice") d then where_so (has_object (codes "left") d && has_object (codes "right") d) (Some ASlice)
     else where_so (is_object d) (Some AnIndex)
 
--- a whole number is one as serde_json keeps it, from -2^63 to 2^63 - 1
+-- the shape of an object of a kind, where its members are as the kind demands. A whole number is one as serde_json keeps it,
+-- from -2^63 to 2^63 - 1
 abbrev pub kind_shape : ExprKind → Data → Option Shape
 kind_shape OfBool d = option_map (λ b. Plain (Boolean b)) (option_and_then as_bool (get (codes "value") d))
 kind_shape OfInteger d = option_map (λ z. Plain (Integer z)) (option_and_then as_i64 (option_and_then as_number (get (codes "value") d)))

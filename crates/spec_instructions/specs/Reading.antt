@@ -24,6 +24,6 @@ paths_read isa held d = tree_read isa held d >>= λ read. Ok (paths_from [] read
 abbrev pub FirstFaultDecides : Type 0
 FirstFaultDecides = (isa : List ℕ) (held : List (List ℕ)) (d : Data) → judged (events (instructions isa (root d))) (from_held held) ≡ (tree_read isa held d >>= λ read. Ok read.1)
 
--- the root of the tree is a set and no other node is one, below each node stand only nodes that may, and names and items are as they have to be
+-- the root of the tree is a set and no other node is one, below each node stand only nodes that may, names are names, and each item lies within the word, with a mark for each digit
 abbrev pub TreesAreSound : Type 0
 TreesAreSound = (isa : List ℕ) (held : List (List ℕ)) (d : Data) (tree : Node) (counts : Counts) → tree_read isa held d ≡ Ok (tree, counts) → IsSetTree tree

@@ -28,7 +28,7 @@ counted Leaf here = one_more ANode here >>> λ _. one_more ALeaf here
 counted Alias here = one_more ANode here >>> λ _. one_more AnAlias here
 counted Instance here = Done tt
 
--- a node of a kind, behind so many named items of its path
+-- what a node of a kind says of itself, behind so many named items of its path
 abbrev pub own : Kind → ℕ → Spot → Walk Own
 own k above here =
     node_name here >>> named here >>> λ name.
@@ -57,7 +57,7 @@ node_of k above here inside =
     inside.optional_parts (record { owner = k; named = above + named_in o.items }) (codes "children") >>> λ found.
     Done (node o (nodes_of found))
 
--- an element of `children` by its kind: an alias is not read yet, and an instance is passed over
+-- an element of `children` by its kind: an alias is not read yet, an instance is passed over, and no set stands there
 abbrev pub child_of : ℕ → Spot → Inside Above (Option Node) → Kind → Walk (Option Node)
 child_of above here inside Set = node_of Set above here inside >>> λ n. Done (Some n)
 child_of above here inside Group = node_of Group above here inside >>> λ n. Done (Some n)

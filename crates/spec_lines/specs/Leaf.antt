@@ -10,7 +10,7 @@ digit_text Zero = 48
 digit_text One = 49
 digit_text Either = 120
 
--- 32 digits, or that two items of the path fix a bit to different values
+-- 32 digits, or the word `clash` where two items of the path fix a bit to different values
 abbrev pub bits_text : Option (List Digit) → List ℕ
 bits_text None = codes "clash"
 bits_text (Some digits) = map digit_text digits

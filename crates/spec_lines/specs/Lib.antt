@@ -2,4 +2,4 @@ pub mod Hex
 pub mod Line
 pub mod Listing
 pub mod Leaf
-pub mod Verdict
+pub mod LogLine

@@ -1,4 +1,5 @@
 mod Worked
+mod WorkedReadings
 pub mod Sound
 pub mod Outcome
 pub mod Hinted
@@ -12,3 +13,8 @@ pub mod LineEnds
 pub mod Stopped
 pub mod Judging
 pub mod Agreement
+pub mod WordReadings
+pub mod LineReadings
+pub mod LogLines
+pub mod LogReadings
+pub mod Failures

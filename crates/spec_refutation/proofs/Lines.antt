@@ -1,4 +1,4 @@
--- A line of a log's text is the text of one clause, one step or one triple of counts, whatever follows it.
+-- The texts of runs of literals and of numbers: what follows one is told by its text. The lines with their ends in front of what follows.
 use Rattle.std.proofs.Common.{◌≡◌, ℕ, suc, ◌^◌, ◌<◌, ◌≤◌, ℤ, pos, negsuc, nat_abs, false, List, [], ◌∷◌, ◌++◌, length, get_or, refl, sym, ap, ◌∙◌, arith}
 use Rattle.std.specs.Prelude.{decimal}
 use Rattle.std.specs.Fmt.{signed_decimal}
@@ -7,7 +7,7 @@ use Rattle.std.proofs.lemmas.Bool.{both_ways}
 use Rattle.std.proofs.lemmas.List.{append_assoc}
 use Rattle.spec_refutation.specs.Derivation.{Step}
 use Rattle.spec_refutation.specs.Text.{begins_with_digit, spaced_literals, spaced_numbers, first_line, clause_line, step_line}
-use Rattle.spec_refutation.specs.Reading.{AreCounts, IsLiteral, IsHint, IsClause, IsStep}
+use Rattle.spec_refutation.specs.Reading.{IsLiteral, IsClause}
 use Rattle.spec_refutation.proofs.Numbers.{same_number, begins-decimal}
 use Rattle.spec_refutation.proofs.Runs.{NoItem, same_run}
 
@@ -77,38 +77,3 @@ step_line_is s x = ap (λ t. 115 ∷ t) (append_assoc (spaced_literals s.0) (32 
 pub first_line_is : (v c s : ℕ) (x : List ℕ)
     → first_line v c s ++ x ≡ 112 ∷ (spaced_numbers (v ∷ c ∷ s ∷ []) ++ (10 ∷ x))
 first_line_is v c s x = ap (λ t. 112 ∷ t) (append_assoc (spaced_numbers (v ∷ c ∷ s ∷ [])) (10 ∷ []) x)
-
-pub same_clause_line : (vars : ℕ) (c d : List ℤ) (x y : List ℕ) → vars ≤ 2147483647 → IsClause vars c
-    → IsClause vars d → clause_line c ++ x ≡ clause_line d ++ y → (c ≡ d) × (x ≡ y)
-same_clause_line vars c d x y few gc gd e =
-    let p = same_literals vars few c d (10 ∷ x) (10 ∷ y) gc gd (λ _. refl) (λ _. refl) (no_literal_at_end vars few x) (no_literal_at_end vars few y)
-    (tails (sym (clause_line_is c x) ∙ e ∙ clause_line_is d y)) in
-    (p.0, tails p.1)
-
-hint_small : (lines n : ℕ) → lines ≤ 18446744073709551615 → IsHint lines n → n < 2 ^ 64
-hint_small lines n few h = omega (arith, h.within)
-
-pub same_step_line : (vars lines : ℕ) (s t : Step) (x y : List ℕ) → vars ≤ 2147483647
-    → lines ≤ 18446744073709551615 → IsStep vars lines s → IsStep vars lines t
-    → step_line s ++ x ≡ step_line t ++ y → (s ≡ t) × (x ≡ y)
-same_step_line vars lines s t x y few some gs gt e =
-    let p = same_literals vars few s.0 t.0 (32 ∷ 58 ∷ (spaced_numbers s.1 ++ (10 ∷ x))) (32 ∷ 58 ∷ (spaced_numbers t.1 ++ (10 ∷ y))) gs.clause gt.clause (λ _. refl) (λ _. refl)
-    (no_literal_at_colon vars few (spaced_numbers s.1 ++ (10 ∷ x))) (no_literal_at_colon vars few (spaced_numbers t.1 ++ (10 ∷ y)))
-    (tails (sym (step_line_is s x) ∙ e ∙ step_line_is t y)) in
-    let q = same_numbers (IsHint lines) (λ n. hint_small lines n some) s.1 t.1 (10 ∷ x) (10 ∷ y) gs.hints gt.hints (λ _. refl) (λ _. refl)
-    (no_number_at_end (IsHint lines) (λ n. hint_small lines n some) x) (no_number_at_end (IsHint lines) (λ n. hint_small lines n some) y) (tails (tails p.1)) in
-    (ap (λ a. (a, s.1)) p.0 ∙ ap (λ b. (t.0, b)) q.0, tails q.1)
-
--- two triples of counts with one text
-pub same_first_line : (v c s w d t : ℕ) (x y : List ℕ) → AreCounts v c s → AreCounts w d t
-    → first_line v c s ++ x ≡ first_line w d t ++ y → ((v ≡ w) × (c ≡ d) × (s ≡ t)) × (x ≡ y)
-same_first_line v c s w d t x y g h e =
-    let small : (n : ℕ) → n < 2 ^ 64 → n < 2 ^ 64 = λ n k. k in
-    let p = same_numbers (λ n. n < 2 ^ 64) small (v ∷ c ∷ s ∷ []) (w ∷ d ∷ t ∷ []) (10 ∷ x) (10 ∷ y)
-    (omega (arith, g.few_vars), (omega (arith, g.few_lines), (omega (arith, g.few_lines), tt))) (omega (arith, h.few_vars), (omega (arith, h.few_lines), (omega (arith, h.few_lines), tt)))
-    (λ _. refl) (λ _. refl) (no_number_at_end (λ n. n < 2 ^ 64) small x) (no_number_at_end (λ n. n < 2 ^ 64) small y)
-    (tails (sym (first_line_is v c s x) ∙ e ∙ first_line_is w d t y)) in
-    let at0 : v ≡ w = ap (λ ns. get_or ns 0 0) p.0 in
-    let at1 : c ≡ d = ap (λ ns. get_or ns 1 0) p.0 in
-    let at2 : s ≡ t = ap (λ ns. get_or ns 2 0) p.0 in
-    ((at0, at1, at2), tails p.1)

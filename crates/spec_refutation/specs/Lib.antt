@@ -6,5 +6,6 @@ pub mod Derivation
 pub mod Refutation
 pub mod Text
 pub mod Reading
+pub mod LogReading
 pub mod Scans
 pub mod First

@@ -1,5 +1,6 @@
 -- When a log refutes clauses, and where one fails that does not.
-use Rattle.std.specs.Prelude.{◌≡◌, ◌≢◌, ℕ, ◌<◌, ℤ, Bool, true, false, List, [], ◌++◌, map, take, length, slice_index_or, ◌⊎◌}
+use Rattle.std.specs.Prelude.{◌≡◌, ◌≢◌, ℕ, suc, ◌<◌, ℤ, Bool, true, false, List, [], ◌∷◌, ◌++◌, map, take, length, slice_index_or, ◌⊎◌, Option, Some, None, option_map, if◌then◌else◌}
+use Rattle.std.specs.List.{list_any}
 use Rattle.spec_refutation.specs.Derivation.{Step, derives}
 
 -- Clauses are numbered from 1, and the steps of a log go on from there: before step i, counted from 0,
@@ -38,3 +39,22 @@ pub record FailsAtEnd (clauses : List (List ℤ)) (steps : List Step) (n : ℕ) 
 
 abbrev pub Fails : List (List ℤ) → List Step → ℕ → Type 0
 Fails clauses steps n = FailsAtStep clauses steps n ⊎ FailsAtEnd clauses steps n
+
+-- ---- by computing
+
+-- the first step that does not follow from these clauses and the steps before it, counted from 0
+abbrev pub first_lapse : List (List ℤ) → List Step → Option ℕ
+first_lapse known [] = None
+first_lapse known (step ∷ steps) = if derives known step then option_map suc (first_lapse (known ++ step.0 ∷ []) steps) else Some 0
+
+abbrev pub is_empty : Step → Bool
+is_empty ([], hints) = true
+is_empty (l ∷ ls, hints) = false
+
+abbrev pub lapse_or_end : Option ℕ → List Step → Option ℕ
+lapse_or_end (Some n) steps = Some n
+lapse_or_end None steps = if list_any is_empty steps then None else Some (length steps)
+
+-- The number at which a log fails. A log without one refutes its clauses.
+abbrev pub failure : List (List ℤ) → List Step → Option ℕ
+failure clauses steps = lapse_or_end (first_lapse clauses steps) steps

@@ -7,6 +7,6 @@
 mod laws;
 
 pub use laws::{
-    each_log_has_one_outcome, each_text_has_a_reading, no_text_has_two_readings,
-    refutations_are_sound, refutations_hint_within_bounds,
+    each_failure_is_told, each_log_has_one_outcome, each_text_has_a_reading, each_text_is_read,
+    no_text_has_two_readings, refutations_are_sound, refutations_hint_within_bounds,
 };

@@ -17,7 +17,7 @@ use Rattle.spec_run.specs.Outcome.{after_opening, of_request, outcome}
 use Rattle.spec_run.specs.Scene.{Scene, Took, TookPrefix, TookShort}
 use Rattle.spec_run.specs.Ran.{Told, Whole, Broke, SourceBroke, Ran}
 use Rattle.spec_run.specs.Fits.{IsFit, IsProgress}
-use Rattle.spec_run.specs.Opens.{Gives, Fails}
+use Rattle.spec_run.specs.Opens.{DocumentsGive, IsUnopened}
 use Rattle.spec_run.specs.Answers.{Untouched, WorkDecides, OutOfMemory, Means, Misused, Asked, Says}
 use Rattle.spec_run.specs.Exact.{GivesOutcome, IsAnswer, IsLate, IsCut, AnswersAreExact, RunsComplete, FaultsComeLate, PrefixesGoOut}
 use Rattle.spec_run.proofs.Fits.{works_fit}
@@ -124,11 +124,11 @@ module _ (words : List (List ℕ)) (s : Scene) (docs : List Named) (bytes : List
     refused : (error : OpeningError) → opened asked docs ≡ Err error → outcome words docs bytes ≡ record { end = end_by error; out = [] }
     refused error cause = ap (λ r. of_request r docs bytes) says ∙ ap (λ r. after_opening asked r bytes) cause
 
-    by_opening : (error : OpeningError) → Gives (opened asked) s.shelf s.shelf_after (Err error) → Untouched s → GivesOutcome words s docs bytes (end_by error)
+    by_opening : (error : OpeningError) → DocumentsGive (opened asked) s.shelf s.shelf_after (Err error) → Untouched s → GivesOutcome words s docs bytes (end_by error)
     by_opening error opens still = nothing (end_by error) (refused error (told s.shelf.documents docs _ d opens)) still.out
 
     -- a document that is not there, where the shelf's count did not rise
-    unfetched : (which : Which) → Fails (opened asked) s.shelf s.shelf_after (NotRead which) → ¬ Rose s.shelf.faults s.shelf_after.faults → (outcome words docs bytes).end ≡ ReadFault which
+    unfetched : (which : Which) → IsUnopened (opened asked) s.shelf s.shelf_after (NotRead which) → ¬ Rose s.shelf.faults s.shelf_after.faults → (outcome words docs bytes).end ≡ ReadFault which
     unfetched which cause still = elim cause.1 [
       | inl rose ↦ absurd (still rose)
       | inr none ↦ ap (λ o. o.end) (refused (NotRead which) (told_and s.shelf.documents docs (λ docs. opened asked docs ≡ Err (NotRead which)) d none))

@@ -59,6 +59,6 @@ leaf_fits paths (Some k) early = absurd early
 -- ---- all commands
 
 pub works_fit : WorksFit
-works_fit (AskList release) machine = list_fits machine
+works_fit (AskList release on) machine = list_fits machine
 works_fit (AskLeaf release label) machine = leaf_fits machine.paths (labelled_leaf machine.paths label)
 works_fit (AskProof log) checked = λ early. absurd early

@@ -1,12 +1,13 @@
--- Worked values: command lines, and documents that are refused.
-use Rattle.std.specs.Prelude.{◌≡◌, [], ◌∷◌, Err, Result, codes, refl, ℕ, List, ◌++◌}
+-- Worked values: command lines, documents that are refused, and what runs put out.
+use Rattle.std.specs.Prelude.{◌≡◌, [], ◌∷◌, Ok, Err, Result, codes, refl, ℕ, List, ◌++◌}
 use Rattle.std.specs.Fmt.{digits}
 use Rattle.serde_json.specs.Read.{read}
 use Rattle.serde_json.proofs.OnLiterals.{serde_json_on_literals}
 use Rattle.spec_walk.specs.Event.{Missing, UnlistedKind}
 use Rattle.spec_decode.specs.Machine.{Machine}
-use Rattle.spec_command.specs.Commands.{AskList, AskLeaf}
-use Rattle.spec_run.specs.End.{Done, Ragged, Usage, Document, Question, NoLeaf, ReadFault, WriteFault, Limit, Insns, Input, Json, Schema, message}
+use Rattle.spec_command.specs.Request.{request}
+use Rattle.spec_command.specs.Commands.{Request, AskList, AskLeaf}
+use Rattle.spec_run.specs.End.{Done, Ragged, Usage, Document, Question, NoLeaf, ReadFault, WriteFault, Limit, Insns, Log, Input, Json, Schema, Syntax, message}
 use Rattle.spec_run.specs.Opening.{OpeningError, Refused, of_value}
 use Rattle.spec_run.specs.Work.{Outcome}
 use Rattle.spec_run.specs.Outcome.{outcome, after_opening}
@@ -44,7 +45,7 @@ opened_by on document = of_value (codes "A64") on (read document)
 
 -- a set without leaves, and a stream of one word
 abbrev of_stream : List ℕ → Outcome
-of_stream bytes = after_opening (AskList (record { insns = []; isa = [] })) (opened_by [] (codes "{\"instructions\":[{\"_type\":\"Instruction.InstructionSet\",\"name\":\"A64\"}]}")) bytes
+of_stream bytes = after_opening (AskList (record { insns = []; isa = [] }) []) (opened_by [] (codes "{\"instructions\":[{\"_type\":\"Instruction.InstructionSet\",\"name\":\"A64\"}]}")) bytes
 
 one_word : of_stream (0 ∷ 0 ∷ 0 ∷ 0 ∷ []) ≡ record { end = Done; out = codes "00000000 00000000 none\n" }
 unfolding digits serde_json_on_literals
@@ -58,16 +59,24 @@ no_stream : of_stream [] ≡ record { end = Done; out = [] }
 unfolding digits serde_json_on_literals
 no_stream = refl
 
--- a leaf without items, whose condition names a feature, and the features that are on
-abbrev with_features : List (List ℕ) → Outcome
-with_features on = after_opening (AskList (record { insns = []; isa = [] })) (opened_by on (codes "{\"instructions\":[{\"_type\":\"Instruction.InstructionSet\",\"name\":\"A64\",\"children\":[{\"_type\":\"Instruction.Instruction\",\"name\":\"L\",\"condition\":{\"_type\":\"AST.Identifier\",\"value\":\"F\"}}]}]}")) (0 ∷ 0 ∷ 0 ∷ 0 ∷ [])
+-- a leaf without items, whose condition names a feature, and words that name features
+abbrev conditioned : List ℕ
+conditioned = codes "{\"instructions\":[{\"_type\":\"Instruction.InstructionSet\",\"name\":\"A64\",\"children\":[{\"_type\":\"Instruction.Instruction\",\"name\":\"L\",\"condition\":{\"_type\":\"AST.Identifier\",\"value\":\"F\"}}]}]}"
 
-not_known : with_features [] ≡ record { end = Done; out = codes "00000000 00000000 open L\n" }
+-- what a request to list puts out over that document and one word
+abbrev listed : Result Request ℕ → Outcome
+listed (Ok (AskList release on)) = after_opening (AskList release on) (of_value release.isa on (read conditioned)) (0 ∷ 0 ∷ 0 ∷ 0 ∷ [])
+listed other = record { end = Usage 0; out = [] }
+
+abbrev asked : List (List ℕ) → Outcome
+asked words = listed (request (codes "list" ∷ codes "insns=d" ∷ words))
+
+not_known : asked [] ≡ record { end = Done; out = codes "00000000 00000000 open L\n" }
 unfolding digits serde_json_on_literals
 not_known = refl
 
 -- also where it is named twice
-known : with_features (codes "E" ∷ codes "F" ∷ codes "F" ∷ []) ≡ record { end = Done; out = codes "00000000 00000000 one L\n" }
+known : asked (codes "on=E" ∷ codes "on=F" ∷ codes "on=F" ∷ []) ≡ record { end = Done; out = codes "00000000 00000000 one L\n" }
 unfolding digits serde_json_on_literals
 known = refl
 
@@ -94,3 +103,29 @@ no_such_leaf = refl
 second_leaf : of_label (codes "DUP#1") ≡ record { end = Done; out = codes "leaf DUP#1\npath A64 DUP\nbits xxxxxxxxxxxxxxxxxxxxxxxxxxxxxxxx\n" }
 unfolding digits serde_json_on_literals
 second_leaf = refl
+
+-- ---- `proof`
+
+-- a log of six clauses and this last line
+abbrev proof_of : List ℕ → Outcome
+proof_of last = outcome (codes "proof" ∷ codes "log=g" ∷ []) ((codes "g", codes "p 3 6 1\nc 3 1\nc 3 -2\nc -3 -1 2\nc 3\nc 1\nc -2\n" ++ last) ∷ []) []
+
+refuted : proof_of (codes "s : 4 5 3 6\n") ≡ record { end = Done; out = codes "refuted 1\n" }
+unfolding digits
+refuted = refl
+
+literals_left : proof_of (codes "s : 4 3 6\n") ≡ record { end = Done; out = codes "fails 0\n" }
+unfolding digits
+literals_left = refl
+
+not_falsified : proof_of (codes "s : 4 5\n") ≡ record { end = Done; out = codes "fails 0\n" }
+unfolding digits
+not_falsified = refl
+
+past_the_variables : proof_of (codes "s 4 :\n") ≡ record { end = Document Log (Syntax 44); out = [] }
+unfolding digits
+past_the_variables = refl
+
+syntax_text : message (Document Log (Syntax 44)) ≡ codes "document log syntax 44\n"
+unfolding digits
+syntax_text = refl

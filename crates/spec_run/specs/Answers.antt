@@ -6,7 +6,7 @@ use Rattle.spec_command.specs.Commands.{Request}
 use Rattle.spec_command.specs.Request.{request}
 use Rattle.spec_run.specs.End.{End, Done, Ragged, Usage, Document, Question, ReadFault, WriteFault, Limit, NoMemory, Input, message}
 use Rattle.spec_run.specs.Opening.{OpeningError, NotRead, TooLong, Refused}
-use Rattle.spec_run.specs.Opens.{ShelfStill, Gives, Fails}
+use Rattle.spec_run.specs.Opens.{ShelfStill, DocumentsGive, IsUnopened}
 use Rattle.spec_run.specs.Commands.{Needs, opened, work_of}
 use Rattle.spec_run.specs.Ran.{Ran}
 use Rattle.spec_run.specs.Scene.{Scene, TookText, Kept}
@@ -20,13 +20,13 @@ pub record Untouched (s : Scene) : Type 0 where
 module _ (s : Scene) (asked : Request) where
   -- what is asked for is not opened, which decides before the question and the stream
   pub record OpeningDecides (error : OpeningError) : Type 0 where
-    pub cause : Fails (opened asked) s.shelf s.shelf_after error
+    pub cause : IsUnopened (opened asked) s.shelf s.shelf_after error
     pub untouched : Untouched s
 
   -- what is asked for is opened, and then the command's work decides
   pub record WorkDecides (end : End) : Type 0 where
     pub found : Needs asked
-    pub gives : Gives (opened asked) s.shelf s.shelf_after (Ok found)
+    pub gives : DocumentsGive (opened asked) s.shelf s.shelf_after (Ok found)
     pub shelf : ShelfStill s.shelf s.shelf_after
     pub ran : Ran s.input s.input_after s.out s.out_after (work_of asked found) end
 
@@ -72,7 +72,7 @@ module _ (words : List (List ℕ)) (s : Scene) where
     pub says : Says end
     pub kept : Kept s
 
-  -- That, and the sink for messages took the status's text and nothing else.
+  -- That, and the sink for messages took the status's text and nothing else, or a prefix of it where its count rose.
   pub record Answers (err err_after : Writing) (end : End) : Type 0 where
     pub performs : Performs end
     pub text : TookText err err_after (message end)

@@ -14,13 +14,13 @@ use Rattle.spec_run.specs.Work.{Outcome, Over, Work, Once, Reads}
 
 -- what is opened for a command
 abbrev pub Needs : Request → Type 0
-Needs (AskList release) = Machine
+Needs (AskList release on) = Machine
 Needs (AskLeaf release label) = Machine
 Needs (AskProof log) = Checked
 
 -- what the documents make of it, or why it is not opened
 abbrev pub opened : (asked : Request) → List Named → Result (Needs asked) OpeningError
-opened (AskList release) docs = machine_opened release [] docs
+opened (AskList release on) docs = machine_opened release on docs
 opened (AskLeaf release label) docs = machine_opened release [] docs
 opened (AskProof log) docs = log_opened log docs
 
@@ -52,6 +52,6 @@ leaf_outcome paths (Some k) = record { end = Done; out = leaf_text paths k }
 -- ---- what a command does by what was opened for it
 
 abbrev pub work_of : (asked : Request) → Needs asked → Work
-work_of (AskList release) machine = Reads (list_work machine)
+work_of (AskList release on) machine = Reads (list_work machine)
 work_of (AskLeaf release label) machine = Once (leaf_outcome machine.paths (labelled_leaf machine.paths label))
 work_of (AskProof log) checked = Once (log_outcome checked)

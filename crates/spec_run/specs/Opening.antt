@@ -1,5 +1,5 @@
 -- What a command names is opened: a document by its length, its JSON and its walk.
-use Rattle.std.specs.Prelude.{ℕ, List, [], length, nat_lt, Option, Some, None, Result, Ok, Err, if◌then◌else◌}
+use Rattle.std.specs.Prelude.{ℕ, List, length, nat_lt, Option, Some, None, Result, Ok, Err, if◌then◌else◌}
 use Rattle.std.specs.Str.{is_utf8}
 use Rattle.spec_io.specs.Documents.{Document as Named, document_of}
 use Rattle.serde_json.specs.Data.{Data}
@@ -9,7 +9,8 @@ use Rattle.spec_instructions.specs.Tree.{Own}
 use Rattle.spec_instructions.specs.Reading.{paths_read}
 use Rattle.spec_decode.specs.Machine.{Machine}
 use Rattle.spec_command.specs.Commands.{Release}
-use Rattle.spec_run.specs.Pins.{distinct, all_on}
+use Rattle.spec_names.specs.Distinct.{distinct}
+use Rattle.spec_run.specs.Pins.{all_on}
 use Rattle.spec_run.specs.End.{Which, DocFault, Json, Schema, End, Document, ReadFault, Limit, Insns}
 
 -- why what a command names is not opened: a document is not there, or is too long, or is refused

@@ -17,11 +17,11 @@ ShelfStill shelf shelf_after = shelf_after.faults ≡ shelf.faults
 
 module _ {A : Type 0} (given : List Named → Result A OpeningError) (shelf shelf_after : Shelving) where
   -- what the documents give, where the shelf tells them
-  abbrev pub Gives : Result A OpeningError → Type 0
-  Gives result = IfSome shelf.documents (λ docs. given docs ≡ result)
+  abbrev pub DocumentsGive : Result A OpeningError → Type 0
+  DocumentsGive result = IfSome shelf.documents (λ docs. given docs ≡ result)
 
   -- nothing is opened: the documents give this error; where one was not read, the shelf tells them, or it failed
-  abbrev pub Fails : OpeningError → Type 0
-  Fails (NotRead which) = IsDocument which × (Rose shelf.faults shelf_after.faults ⊎ IsSomeAnd shelf.documents (λ docs. given docs ≡ Err (NotRead which)))
-  Fails (TooLong which) = IsDocument which × Gives (Err (TooLong which)) × ShelfStill shelf shelf_after
-  Fails (Refused which fault) = IsDocument which × Gives (Err (Refused which fault)) × ShelfStill shelf shelf_after
+  abbrev pub IsUnopened : OpeningError → Type 0
+  IsUnopened (NotRead which) = IsDocument which × (Rose shelf.faults shelf_after.faults ⊎ IsSomeAnd shelf.documents (λ docs. given docs ≡ Err (NotRead which)))
+  IsUnopened (TooLong which) = IsDocument which × DocumentsGive (Err (TooLong which)) × ShelfStill shelf shelf_after
+  IsUnopened (Refused which fault) = IsDocument which × DocumentsGive (Err (Refused which fault)) × ShelfStill shelf shelf_after

@@ -10,7 +10,7 @@ use mrs_names::Names;
 
 /// Whether the names of all nodes and their items are held.
 pub(super) fn are_held(arena: &Arena, names: &Names) -> bool
-    ensures { IsTrue result → AreHeld names.now arena.now }
+    ensures { IsTrue result → AreHeld names.now arena.now.nodes }
 {
     for n in 0..arena.node_count() {
         if !is_node_held(arena, NodeId(n), names) {
@@ -21,8 +21,8 @@ pub(super) fn are_held(arena: &Arena, names: &Names) -> bool
 }
 
 fn is_node_held(arena: &Arena, n: NodeId, names: &Names) -> bool
-    requires { n.0 < length arena.now }
-    ensures { IsTrue result → (node : FlatNode) → slice_get arena.now n.0 ≡ Some node → IsHeldNode names.now node }
+    requires { n.0 < length arena.now.nodes }
+    ensures { IsTrue result → (node : FlatNode) → slice_get arena.now.nodes n.0 ≡ Some node → IsHeldNode names.now node }
 {
     let node = arena.node(n);
     (node.name().0 as usize) < names.len() && are_items_held(node.items(), names)

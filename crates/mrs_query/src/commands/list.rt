@@ -51,7 +51,7 @@ fn list_piece<S: Source, K: Sink>(
     leaves: &mut Vec<LeafId>,
 ) -> Result<usize, Stop>
     requires { offset + length buffer.old < 2 ^ 64 }
-    ensures piece { PieceEnds opened.now.paths offset (length buffer.new) (S.reading input.old) (S.reading input.new)
+    ensures piece { PieceEnds opened.now offset (length buffer.new) (S.reading input.old) (S.reading input.new)
         (K.writing out.old) (K.writing out.new) buffer.new result }
     ensures cause { PieceCause (S.reading input.old) (S.reading input.new) (K.writing out.old) (K.writing out.new) result }
 {
@@ -137,7 +137,7 @@ fn list_pieces<S: Source, K: Sink>(
 ) -> Status
     requires { length buffer.old ≡ 65536 }
     ensures { Ran (S.reading input.old) (S.reading input.new) (K.writing out.old) (K.writing out.new)
-        (Reads (list_work opened.now.paths)) (end_of result) }
+        (Reads (list_work opened.now)) (end_of result) }
 {
     let mut lines = Vec::new(alloc);
     let mut leaves = Vec::new(alloc);
@@ -162,7 +162,7 @@ pub(crate) fn list_stream<S: Source, K: Sink>(
     out: &mut K,
 ) -> Status
     ensures { Ran (S.reading input.old) (S.reading input.new) (K.writing out.old) (K.writing out.new)
-        (Reads (list_work opened.now.paths)) (end_of result) }
+        (Reads (list_work opened.now)) (end_of result) }
 {
     match vec![in alloc; 0u8; PIECE] {
         Ok(mut buffer) => list_pieces(alloc, opened, input, out, buffer.as_mut_slice()),

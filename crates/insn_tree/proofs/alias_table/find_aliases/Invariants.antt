@@ -7,6 +7,6 @@ use Rattle.insn_tree.proofs.alias_table.find_aliases.Given as goal
 
 abbrev pub invariant-loop-n : goal.invariant-loop-n
 invariant-loop-n l = record {
-  nodes : map (λ n. n.0) l.nodes.items ≡ filter (has_kind is_alias l.arena) (range_with_len 0 l.n);
-  leaves : map (λ n. n.0) l.leaves.items ≡ map (leaf_above l.arena) (filter (has_kind is_alias l.arena) (range_with_len 0 l.n));
+  nodes : map (λ n. n.0) l.nodes.items ≡ filter (has_kind is_alias l.arena.nodes) (range_with_len 0 l.n);
+  leaves : map (λ n. n.0) l.leaves.items ≡ map (leaf_above l.arena.nodes) (filter (has_kind is_alias l.arena.nodes) (range_with_len 0 l.n));
 }

@@ -6,6 +6,6 @@ use Rattle.insn_tree.proofs.leaf_fields.visible_fields.Given as goal
 
 abbrev pub invariant-loop-above : goal.invariant-loop-above
 invariant-loop-above l = record {
-  fields : upward with_field l.arena l.above-iterator (map flat_field l.fields.items) ≡ gathered with_field l.arena l.fn.n.0 [];
-  nodes : All (λ k. k < length l.arena) l.above-iterator;
+  fields : upward with_field l.arena.nodes l.above-iterator (map flat_field l.fields.items) ≡ gathered with_field l.arena.nodes l.fn.n.0 [];
+  nodes : All (λ k. k < length l.arena.nodes) l.above-iterator;
 }

@@ -9,6 +9,7 @@ use Rattle.mrs_arena.specs.Placed.{leaves_of, has_kind}
 use Rattle.insn_tree.specs.Leaves.{name_at, is_shared}
 use Rattle.insn_tree.specs.Words.{merged_at}
 use Rattle.insn_tree.specs.Visible.{fields_at}
+use Rattle.insn_tree.specs.Conditions.{is_conditioned}
 use Rattle.insn_tree.proofs.ListLaws.{All-unmap, map-twice}
 use Rattle.insn_tree.proofs.LeafLaws.{kept_within, kept_few, held_name}
 use Rattle.insn_tree.proofs.leaf_table.describe_leaves.Goals as goal
@@ -23,7 +24,7 @@ are_nodes nodes items list leaves same =
     All-unmap (λ n. n < length nodes) (λ (n : NodeId). n.0) list (subst (All (λ n. n < length nodes)) (sym (ap (map (λ (n : NodeId). n.0)) same ∙ leaves)) (kept_within is_leaf nodes))
 
 pub leaf_names-requires : goal.leaf_names-requires
-leaf_names-requires c = are_nodes c.args.arena.now c.args.nodes.items c.deref.result.now c.requires.leaves c.deref.ensures.value
+leaf_names-requires c = are_nodes c.args.arena.now.nodes c.args.nodes.items c.deref.result.now c.requires.leaves c.deref.ensures.value
 
 pub find_shared-requires-clause-few : goal.find_shared-requires-clause-few
 find_shared-requires-clause-few c =
@@ -35,16 +36,16 @@ find_shared-requires-clause-few c =
       ap length named,
       ap length c.deref.ensures.value,
       ap length c.requires.leaves,
-      kept_few (has_kind is_leaf c.args.arena.now) (length c.args.arena.now),
+      kept_few (has_kind is_leaf c.args.arena.now.nodes) (length c.args.arena.now.nodes),
       length-map c.in_ok-leaf_names.leaf_names.items (λ (name : NameId). name.0),
-      length-map c.deref.result.now (λ (n : NodeId). name_at c.args.arena.now n.0),
+      length-map c.deref.result.now (λ (n : NodeId). name_at c.args.arena.now.nodes n.0),
       length-map c.args.nodes.items (λ (n : NodeId). n.0),
     )
 
 pub find_shared-requires-clause-within : goal.find_shared-requires-clause-within
 find_shared-requires-clause-within c =
     let names = length c.args.names.now in
-    let nodes = c.args.arena.now in
+    let nodes = c.args.arena.now.nodes in
     let each : All (λ id. id < names) (map (λ (n : NodeId). name_at nodes n.0) c.deref.result.now) =
     All-map (λ id. id < names) (λ (n : NodeId). name_at nodes n.0) c.deref.result.now
     (λ k d h. held_name c.args.names.now nodes c.requires.held _ (are_nodes nodes c.args.nodes.items c.deref.result.now c.requires.leaves c.deref.ensures.value k d h)) in
@@ -53,14 +54,17 @@ find_shared-requires-clause-within c =
     λ k d h. subst (λ (count : ℕ). (get_or c.deref-2.result.now k d).0 < count) (sym c.len.ensures.count) (all k d h)
 
 pub merged_patterns-requires : goal.merged_patterns-requires
-merged_patterns-requires c = are_nodes c.args.arena.now c.args.nodes.items c.deref-3.result.now c.requires.leaves c.deref-3.ensures.value
+merged_patterns-requires c = are_nodes c.args.arena.now.nodes c.args.nodes.items c.deref-3.result.now c.requires.leaves c.deref-3.ensures.value
 
 pub leaf_fields-requires : goal.leaf_fields-requires
-leaf_fields-requires c = are_nodes c.args.arena.now c.args.nodes.items c.deref-4.result.now c.requires.leaves c.deref-4.ensures.value
+leaf_fields-requires c = are_nodes c.args.arena.now.nodes c.args.nodes.items c.deref-4.result.now c.requires.leaves c.deref-4.ensures.value
+
+pub conditioned_leaves-requires : goal.conditioned_leaves-requires
+conditioned_leaves-requires c = are_nodes c.args.arena.now.nodes c.args.nodes.items c.deref-5.result.now c.requires.leaves c.deref-5.ensures.value
 
 pub returns-clause-leaves : goal.returns-clause-leaves
 returns-clause-leaves c =
-    let nodes = c.args.arena.now in
+    let nodes = c.args.arena.now.nodes in
     let items = c.args.nodes.items in
     let leaves = c.requires.leaves in
     let named = c.in_ok-leaf_names.ensures ∙ ap (map (λ (n : NodeId). name_at nodes n.0)) c.deref.ensures.value ∙ of_leaves (name_at nodes) items (leaves_of nodes) leaves in
@@ -74,5 +78,6 @@ returns-clause-leaves c =
           ∙ ap (λ ns. map (is_shared ns) ns) named;
       merged_are = c.in_ok-merged.ensures.digits ∙ ap (map (λ (n : NodeId). merged_at nodes n.0)) c.deref-3.ensures.value ∙ of_leaves (merged_at nodes) items (leaves_of nodes) leaves;
       widths = c.in_ok-merged.ensures.widths;
+      conditioned_are = c.in_ok-conditioned.ensures ∙ ap (map (λ (n : NodeId). is_conditioned nodes n.0)) c.deref-5.ensures.value ∙ of_leaves (is_conditioned nodes) items (leaves_of nodes) leaves;
       fields_are = c.in_ok-fields.ensures ∙ ap (map (λ (n : NodeId). fields_at nodes n.0)) c.deref-4.ensures.value ∙ of_leaves (fields_at nodes) items (leaves_of nodes) leaves;
     }

@@ -7,7 +7,7 @@ use Rattle.insn_tree.proofs.leaf_word.merged_pattern.Given as goal
 -- with what the nodes that are left fix it is all that the path fixes
 abbrev pub invariant-loop-above : goal.invariant-loop-above
 invariant-loop-above l = record {
-  digits : upward join_item l.arena l.above-iterator (option_map digits_of l.merged) ≡ merged_at l.arena l.fn.n.0;
+  digits : upward join_item l.arena.nodes l.above-iterator (option_map digits_of l.merged) ≡ merged_at l.arena.nodes l.fn.n.0;
   width : IfSome l.merged (λ p. p.width ≡ 32);
-  nodes : All (λ k. k < length l.arena) l.above-iterator;
+  nodes : All (λ k. k < length l.arena.nodes) l.above-iterator;
 }

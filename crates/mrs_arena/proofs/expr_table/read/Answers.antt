@@ -2,7 +2,7 @@ use Rattle.std.proofs.Common.{◌∙◌, sym, ap, rules, w64}
 use Rattle.std.proofs.lemmas.Int.{to_z-of_z}
 use mir.Val.{SFits}
 use Rattle.spec_expressions.specs.Expression as expression
-use Rattle.mrs_arena.specs.Expressions.{expr_at, function_of}
+use Rattle.mrs_arena.specs.Expressions.{expr_at, function_by, itself}
 use Rattle.mrs_arena.specs.Table.{nested, numbers}
 use Rattle.mrs_arena.proofs.ExprLaws.{nested-at, below-at, list_of-read, below-read}
 use Rattle.mrs_arena.proofs.expr_table.read.Goals as goal
@@ -39,7 +39,7 @@ listed-requires c = (below-at (numbers c.args.parts.now) c.args.exprs.now c.args
 pub returns-in-Call-clause-layer : goal.returns-in-Call-clause-layer
 returns-in-Call-clause-layer c =
     nested-at (numbers c.args.parts.now) c.args.exprs.now c.args.e.0 _ c.requires.made.below c.in-Call.ensures
-    ∙ ap (expression.Call (function_of c.in-Call.func)) (list_of-read (expr_at (nested (numbers c.args.parts.now) c.args.exprs.now)) c.args.parts.now c.listed.result.now c.in-Call.args c.listed.ensures)
+    ∙ ap (expression.Call (function_by itself c.in-Call.func)) (list_of-read (expr_at (nested (numbers c.args.parts.now) c.args.exprs.now)) c.args.parts.now c.listed.result.now c.in-Call.args c.listed.ensures)
 
 pub returns-in-Call-clause-below : goal.returns-in-Call-clause-below
 returns-in-Call-clause-below c = below-read c.args.e.0 c.args.parts.now c.listed.result.now c.in-Call.args c.listed.ensures (below-at (numbers c.args.parts.now) c.args.exprs.now c.args.e.0 _ c.requires.made.below c.in-Call.ensures)

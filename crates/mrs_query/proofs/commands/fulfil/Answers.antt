@@ -12,15 +12,15 @@ pub returns-in_err-opened-in-List-clause-fulfils : goal.returns-in_err-opened-in
 returns-in_err-opened-in-List-clause-fulfils g c =
     let e = c.in_err-opened-in-List in
     let p = err_from_is_err_and c.from_residual.result c.from_residual.ensures.1 in
-    rw (c.in-List.is, p.1, p.2) (not_opened _ (AskList (release_of c.in-List.release)) e.field-0.0 e.ensures.opens e.ensures.same e.ensures.later (record { input = refl; out = Keeps-refl _; count = refl }))
+    rw (c.in-List.is, p.1, p.2) (not_opened _ (AskList (release_of c.in-List.release) c.in-List.on) e.field-0.0 e.ensures.opens e.ensures.same e.ensures.later (record { input = refl; out = Keeps-refl _; count = refl }))
 
 pub returns-in_ok-opened-in-List-clause-fulfils : goal.returns-in_ok-opened-in-List-clause-fulfils
 returns-in_ok-opened-in-List-clause-fulfils g c =
     let o = c.in_ok-opened-in-List in
-    rw c.in-List.is (work_done _ (AskList (release_of c.in-List.release)) o.opened c.list_stream.result o.ensures.opens o.ensures.same c.list_stream.ensures)
+    rw c.in-List.is (work_done _ (AskList (release_of c.in-List.release) c.in-List.on) o.opened c.list_stream.result o.ensures.opens o.ensures.same c.list_stream.ensures)
 
 pub returns-in_ok-opened-in-List-clause-early : goal.returns-in_ok-opened-in-List-clause-early
-returns-in_ok-opened-in-List-clause-early g c = λ early. absurd (never_early _ _ _ _ _ _ (list_fits c.in_ok-opened-in-List.opened.paths) c.list_stream.ensures early)
+returns-in_ok-opened-in-List-clause-early g c = λ early. absurd (never_early _ _ _ _ _ _ (list_fits c.in_ok-opened-in-List.opened) c.list_stream.ensures early)
 
 pub returns-in_err-opened-in-Leaf-clause-fulfils : goal.returns-in_err-opened-in-Leaf-clause-fulfils
 returns-in_err-opened-in-Leaf-clause-fulfils g c =

@@ -13,10 +13,10 @@ held_more names nodes n within before each =
 
 pub loop-n-preserved : goal.loop-n-preserved
 loop-n-preserved c =
-    let within : c.loop-n.n < length c.args.arena.now = omega (arith, c.loop-n-test.true, c.node_count-n-end.ensures.count) in
-    held_more c.args.names.now c.args.arena.now c.loop-n.n within c.loop-n.invariant (c.is_node_held.ensures c.if-not-is_node_held.false)
+    let within : c.loop-n.n < length c.args.arena.now.nodes = omega (arith, c.loop-n-test.true, c.node_count-n-end.ensures.count) in
+    held_more c.args.names.now c.args.arena.now.nodes c.loop-n.n within c.loop-n.invariant (c.is_node_held.ensures c.if-not-is_node_held.false)
 
 pub returns : goal.returns
 returns c =
-    let all : length c.args.arena.now ≤ c.loop-n.n = omega (arith, c.loop-n-test.false, c.node_count-n-end.ensures.count) in
-    λ _. subst (All (IsHeldNode c.args.names.now)) (take_all c.loop-n.n c.args.arena.now all) c.loop-n.invariant
+    let all : length c.args.arena.now.nodes ≤ c.loop-n.n = omega (arith, c.loop-n-test.false, c.node_count-n-end.ensures.count) in
+    λ _. subst (All (IsHeldNode c.args.names.now)) (take_all c.loop-n.n c.args.arena.now.nodes all) c.loop-n.invariant

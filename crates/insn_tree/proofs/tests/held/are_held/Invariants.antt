@@ -3,4 +3,4 @@ use Rattle.mrs_arena.specs.Placed.{IsHeldNode}
 use Rattle.insn_tree.proofs.tests.held.are_held.Given as goal
 
 abbrev pub invariant-loop-n : goal.invariant-loop-n
-invariant-loop-n l = All (IsHeldNode l.names) (take l.n l.arena)
+invariant-loop-n l = All (IsHeldNode l.names) (take l.n l.arena.nodes)

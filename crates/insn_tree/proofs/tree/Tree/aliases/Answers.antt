@@ -8,5 +8,5 @@ use Rattle.insn_tree.proofs.tree.Tree.aliases.Goals as goal
 pub overflow_cast-result : goal.overflow_cast-result
 overflow_cast-result c =
     let kept = c.self.invariant.1 in
-    let nodes = c.self.inside.arena in
+    let nodes = c.self.inside.arena.nodes in
     omega (arith, c.len.ensures, c.self.inside.aliases.nodes.ok.0, few_kept is_alias nodes c.self.invariant.0.formed c.self.inside.aliases.nodes.items (aliases_of nodes) kept.nodes_are (kept_few (has_kind is_alias nodes) (length nodes)))

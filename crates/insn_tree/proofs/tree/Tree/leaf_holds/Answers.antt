@@ -8,7 +8,7 @@ use Rattle.insn_tree.proofs.tree.Tree.leaf_holds.Goals as goal
 
 pub returns-in-Some : goal.returns-in-Some
 returns-in-Some c names =
-    let kept = AreLeaves-of c.self.inside.leaves c.self.inside.arena c.args.self.now.nodes (ap (λ (t : TreeParts). t.nodes) c.self.view_is) c.self.invariant.0 in
+    let kept = AreLeaves-of c.self.inside.leaves c.self.inside.arena.nodes c.args.self.now.nodes (ap (λ (t : TreeParts). t.nodes) c.self.view_is) c.self.invariant.0 in
     c.holds.ensures
     ∙ ap (pattern_holds (digits_of c.in-Some.pattern)) c.from.ensures
     ∙ ap (λ o. holds_of (option_map digits_of o) c.args.w) (sym c.in-Some.is)
@@ -16,6 +16,6 @@ returns-in-Some c names =
 
 pub returns-in-None : goal.returns-in-None
 returns-in-None c names =
-    let kept = AreLeaves-of c.self.inside.leaves c.self.inside.arena c.args.self.now.nodes (ap (λ (t : TreeParts). t.nodes) c.self.view_is) c.self.invariant.0 in
+    let kept = AreLeaves-of c.self.inside.leaves c.self.inside.arena.nodes c.args.self.now.nodes (ap (λ (t : TreeParts). t.nodes) c.self.view_is) c.self.invariant.0 in
     ap (λ o. holds_of (option_map digits_of o) c.args.w) (sym c.in-None.is)
     ∙ holds_kept c.args.self.now.nodes c.self.inside.leaves kept c.args.l.0 c.requires c.index.result.now c.index.ensures names c.args.w

@@ -5,5 +5,5 @@ use Rattle.insn_tree.proofs.tree.Tree.leaf_node.Goals as goal
 
 pub returns-clause-within : goal.returns-clause-within
 returns-clause-within c =
-    let kept = AreLeaves-of c.self.inside.leaves c.self.inside.arena c.args.self.now.nodes (ap (λ (t : TreeParts). t.nodes) c.self.view_is) c.self.invariant.0 in
+    let kept = AreLeaves-of c.self.inside.leaves c.self.inside.arena.nodes c.args.self.now.nodes (ap (λ (t : TreeParts). t.nodes) c.self.view_is) c.self.invariant.0 in
     leaf_node-within c.args.self.now.nodes c.self.inside.leaves kept c.args.l.0 c.requires c.index.result.now c.index.ensures

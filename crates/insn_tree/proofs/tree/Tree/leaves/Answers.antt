@@ -8,5 +8,5 @@ use Rattle.insn_tree.proofs.tree.Tree.leaves.Goals as goal
 pub overflow_cast-result : goal.overflow_cast-result
 overflow_cast-result c =
     let kept = c.self.invariant.0 in
-    let nodes = c.self.inside.arena in
+    let nodes = c.self.inside.arena.nodes in
     omega (arith, c.len.ensures, c.self.inside.leaves.nodes.ok.0, few_kept is_leaf nodes kept.formed c.self.inside.leaves.nodes.items (leaves_of nodes) kept.nodes_are (kept_few (has_kind is_leaf nodes) (length nodes)))

@@ -9,11 +9,11 @@ pub returns-in-Some : goal.returns-in-Some
 returns-in-Some c =
     let text = c.args.text.now in
     c.is_taken.ensures
-    ∙ sym (has_number-last text c.self.inside.names c.self.inside.nodes c.in-Some.name.0 c.len-count.ensures.names c.self.invariant (sym c.in-Some.ensures))
+    ∙ sym (has_number-last text c.self.inside.names c.self.inside.builder.nodes c.in-Some.name.0 c.len-count.ensures.names c.self.invariant.nodes (sym c.in-Some.ensures))
     ∙ ap (λ d. list_any (bytes_eq text) (names_of (last_items d.nodes))) c.self.view_is
 
 pub returns-in-None : goal.returns-in-None
 returns-in-None c =
     let text = c.args.text.now in
-    sym (has_no_number-last text c.self.inside.names c.self.inside.nodes c.len-count.ensures.names c.self.invariant (sym c.in-None.ensures))
+    sym (has_no_number-last text c.self.inside.names c.self.inside.builder.nodes c.len-count.ensures.names c.self.invariant.nodes (sym c.in-None.ensures))
     ∙ ap (λ d. list_any (bytes_eq text) (names_of (last_items d.nodes))) c.self.view_is

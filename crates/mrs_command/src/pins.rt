@@ -1,0 +1,34 @@
+//! Pins: words that settle features. Several words may have the key of a pin.
+ghost use Rattle.std.specs.Prelude.{◌≡◌};
+ghost use Rattle.spec_command.specs.Commands as spec;
+ghost use Rattle.spec_command.specs.Request.{is_pin};
+
+use crate::commands::is_among;
+use mrs_names::is_name;
+
+/// How many words are pins at most.
+pub(crate) const MOST_PINS: usize = 4_096;
+
+/// Whether a key is that of a pin.
+pub(crate) fn is_pin_key(key: &str) -> bool
+    ensures { result ≡ spec.is_one_of spec.pin_keys key.now }
+{
+    is_among(&["on"], key)
+}
+
+/// Whether a word is a pin.
+pub(crate) fn is_pin(word: &str) -> bool
+    ensures { result ≡ is_pin word.now }
+{
+    match word.split_once('=') {
+        Some((key, _)) => is_pin_key(key),
+        None => false,
+    }
+}
+
+/// Whether a key takes a value that is not empty: that of a pin takes a name, and any other key any text.
+pub(crate) fn takes(key: &str, value: &str) -> bool
+    ensures { result ≡ spec.takes key.now value.now }
+{
+    !is_pin_key(key) || is_name(value)
+}

@@ -1,0 +1,12 @@
+pub mod Members
+pub mod BitLaws
+pub mod PartLaws
+pub mod PlacedLaws
+pub mod NamedLaws
+pub mod SameLayouts
+pub mod Renamed
+pub mod ExclusionLaws
+pub mod PathLaws
+pub mod EncodingLaws
+pub mod Worked
+pub mod ByNumbers

@@ -1,0 +1,2 @@
+//! Which texts are names. Definitions alone, in `specs/`.
+#![tactic(auto)]

@@ -1,0 +1,5 @@
+pub mod MaskLaws
+pub mod OverLaws
+pub mod OverRules
+pub mod LayoutLaws
+pub mod OpenLaws
