@@ -1,11 +1,13 @@
 //! The clauses of features and pins.
 
-ghost use Rattle.std.specs.Prelude.{◌≡◌, ℕ, ◌+◌, ◌≤◌, [], ◌++◌, nat_eq, length, map, option_to_list, position, is_some, None, Some, Err, OnOk, IfOk};
-ghost use Rattle.std.specs.List.{filter_map};
+ghost use Rattle.std.specs.Prelude.{◌≡◌, ℕ, ◌+◌, ◌<◌, ◌≤◌, [], ◌++◌, nat_eq, length, map, option_to_list, position, is_some, None, Some, Err, OnOk, IfOk};
+ghost use Rattle.std.specs.List.{filter_map, AllByRecursion};
+ghost use Rattle.spec_refutation.specs.Reading.{IsClause};
 ghost use Rattle.spec_features.specs.Theory.{states};
 ghost use Rattle.spec_features.specs.Fits.{unknown_pin};
 ghost use Rattle.spec_features.specs.Clauses.{variables, clauses, constraints_from, last_of, encoded, constraint_clauses, pin_clause};
 ghost use Rattle.feat_model.specs.Views.{formula_of};
+ghost use Rattle.feat_model.specs.Inside.{IsModel};
 ghost use Rattle.feat_model.specs.Encodes.{HasRoom, HasRoomForAll};
 
 use crate::encoder::{Encoder, positive};
@@ -97,6 +99,9 @@ impl Model {
     /// auxiliaries.
     pub fn cnf(&self, alloc: Global, pins: &[Pin]) -> Result<Cnf, ModelFault>
         requires { length pins.now ≤ 4096 }
+        ensures within { IfOk result (λ c. AllByRecursion (IsClause c.0) c.1) }
+        ensures few { IfOk result (λ c. (c.0 ≤ 2147483647) × (length c.1 < 2147483648)) }
+        ensures formed { IsModel self.now }
         ensures cnf { IfOk result (λ c. c ≡ (variables self.now, clauses nat_eq self.now pins.now)) }
         ensures known { OnOk result (unknown_pin nat_eq self.now.names pins.now ≡ None) }
         ensures unknown { (k : ℕ) → result ≡ Err (ModelFault.UnknownFeature k) → unknown_pin nat_eq self.now.names pins.now ≡ Some k }

@@ -41,3 +41,11 @@ impl<T: Drop> From<AllocFailed<T>> for ModelFault {
         ModelFault::NoMemory
     }
 }
+
+impl From<ast_eval::NoMemory> for ModelFault {
+    ghost from_gives = { λ _ e. e ≡ fault.NoMemory };
+
+    fn from(_refused: ast_eval::NoMemory) -> ModelFault {
+        ModelFault::NoMemory
+    }
+}
