@@ -1,13 +1,14 @@
 -- The items along a path by the texts of names.
-use Rattle.std.proofs.Common.{◌≡◌, ◌∙◌, refl, sym, ap, ℕ, zero, suc, List, [], ◌∷◌, ◌++◌, map, reverse}
+use Rattle.std.proofs.Common.{◌≡◌, ◌∙◌, refl, sym, ap, ℕ, zero, suc, List, [], ◌∷◌, ◌++◌, map, reverse, All}
 use Rattle.std.specs.Prelude.{flat_map}
 use Rattle.std.proofs.lemmas.List.{map-append}
+use Rattle.std.proofs.lemmas.List.Elements.{All-nil, All-head, All-tail, All-append}
 use Rattle.spec_instructions.specs.Paths.{path_items}
 use Rattle.spec_instructions.specs.Fields.{visible, fields}
-use Rattle.mrs_arena.specs.Flat.{FlatNode}
+use Rattle.mrs_arena.specs.Flat.{FlatItem, FlatNode}
 use Rattle.mrs_arena.specs.Paths.{ancestors}
 use Rattle.mrs_arena.specs.Nodes.{node_items, parents_of}
-use Rattle.mrs_arena.specs.Placed.{text_of, item_of, own_at, path_to}
+use Rattle.mrs_arena.specs.Placed.{text_of, item_of, own_at, path_to, IsHeldItem, AreHeld}
 use Rattle.ast_eval.specs.Fields.{items_to, fields_by}
 
 own_items : (names : List (List ℕ)) (nodes : List FlatNode) (n : ℕ) → (own_at names nodes n).items ≡ map (item_of names) (node_items nodes n)
@@ -29,3 +30,18 @@ path_items_to names nodes n = path_items_of names nodes (reverse (ancestors (par
 -- and so are the fields that are visible behind them
 pub fields_to : (names : List (List ℕ)) (nodes : List FlatNode) (n : ℕ) → fields_by (text_of names) (items_to nodes n) ≡ fields (path_to names nodes n)
 fields_to names nodes n = ap visible (sym (path_items_to names nodes n))
+
+-- ---- names that are held
+
+items_at-all : (P : FlatItem → Type 0) (nodes : List FlatNode) → All (λ node. All P node.items) nodes → (n : ℕ) → All P (node_items nodes n)
+items_at-all P [] each n = All-nil P
+items_at-all P (node ∷ nodes) each zero = All-head (λ node. All P node.items) node nodes each
+items_at-all P (node ∷ nodes) each (suc n) = items_at-all P nodes (All-tail (λ node. All P node.items) node nodes each) n
+
+items_on-all : (P : FlatItem → Type 0) (nodes : List FlatNode) → All (λ node. All P node.items) nodes → (path : List ℕ) → All P (flat_map (node_items nodes) path)
+items_on-all P nodes each [] = All-nil P
+items_on-all P nodes each (n ∷ path) = All-append P (node_items nodes n) (flat_map (node_items nodes) path) (items_at-all P nodes each n) (items_on-all P nodes each path)
+
+-- the names of the items along a path are held where those of all nodes are
+pub held_to : (names : List (List ℕ)) (nodes : List FlatNode) → AreHeld names nodes → (n : ℕ) → All (IsHeldItem names) (items_to nodes n)
+held_to names nodes held n = items_on-all (IsHeldItem names) nodes (λ k d within. (held k d within).items) (reverse (ancestors (parents_of nodes) n))

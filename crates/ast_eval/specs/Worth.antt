@@ -1,5 +1,5 @@
 -- What an expression of an arena is worth. Names are numbers there; each number stands for a text of its own.
-use Rattle.std.specs.Prelude.{ℕ, ◌<◌, List, [], ◌∷◌, All, length, Option, option_map}
+use Rattle.std.specs.Prelude.{◌≡◌, ℕ, ◌<◌, List, [], ◌∷◌, All, length, Option, Some, option_map}
 use Rattle.spec_expressions.specs.Expression.{ExprOf, with_names}
 use Rattle.spec_expressions.specs.Truth.{Truth}
 use Rattle.spec_expressions.specs.Operations.{Value}
@@ -8,7 +8,7 @@ use Rattle.mrs_names.specs.Texts.{AreNames}
 use Rattle.mrs_arena.specs.declared.expr_id.ExprId.{ExprId}
 use Rattle.mrs_arena.specs.Flat.{FlatItem}
 use Rattle.mrs_arena.specs.Expressions.{expr_at}
-use Rattle.mrs_arena.specs.Placed.{IsHeldItem, IsHeldExpr}
+use Rattle.mrs_arena.specs.Placed.{text_of, IsHeldItem, IsHeldExpr}
 use Rattle.ast_eval.specs.Choices.{Choices, configuration_of}
 use Rattle.ast_eval.specs.Fields.{fields_by}
 
@@ -34,3 +34,10 @@ pub record AreAllHeld (names : List (List ℕ)) (e : Option (ExprOf ℕ)) (c : C
   pub expression : IsHeldExpr names e
   pub parameters : All (λ name. name < length names) c.names
   pub fields : All (IsHeldItem names) items
+
+-- by the texts of any names that are held, a value is that of the expression, and a truth that of the condition
+abbrev pub IsValue : ExprOf ℕ → Choices → List FlatItem → ℕ → Value → Type 0
+IsValue e c items w v = (names : List (List ℕ)) → AreAllHeld names (Some e) c items → v ≡ value_by (text_of names) e c items w
+
+abbrev pub IsTruth : Option (ExprOf ℕ) → Choices → List FlatItem → ℕ → Truth → Type 0
+IsTruth e c items w t = (names : List (List ℕ)) → AreAllHeld names e c items → t ≡ truth_by (text_of names) e c items w

@@ -13,6 +13,8 @@ mod named;
 mod operators;
 mod row;
 mod shared;
+#[cfg(test)]
+mod tests;
 mod val;
 mod worth;
 

@@ -1,10 +1,9 @@
 //! What an expression is worth, and whether a condition holds.
 
-ghost use Rattle.std.specs.Prelude.{◌≡◌, ◌<◌, List, ℕ, length, Some, option_map, IfSome};
+ghost use Rattle.std.specs.Prelude.{◌≡◌, ◌<◌, length, IfSome};
 ghost use Rattle.mrs_arena.specs.Expressions.{expr_at};
-ghost use Rattle.mrs_arena.specs.Placed.{text_of};
 ghost use Rattle.ast_eval.specs.Views.{truth_of, value_of};
-ghost use Rattle.ast_eval.specs.Worth.{value_by, truth_by, own_text, condition_at, AreAllHeld};
+ghost use Rattle.ast_eval.specs.Worth.{value_by, truth_by, own_text, condition_at, IsValue, IsTruth};
 
 use crate::config::Config;
 use crate::env::Env;
@@ -20,8 +19,8 @@ pub fn eval(arena: &Arena, e: ExprId, config: &Config, env: &Env<'_>, w: u32) ->
     requires { e.0 < length arena.now.exprs }
     ensures value { value_of result ≡ value_by own_text (expr_at arena.now.exprs e.0) config.now env.now w }
 
-    // by the texts of names that are held
-    ensures named { (names : List (List ℕ)) → AreAllHeld names (Some (expr_at arena.now.exprs e.0)) config.now env.now → value_of result ≡ value_by (text_of names) (expr_at arena.now.exprs e.0) config.now env.now w }
+    // by the texts of names
+    ensures named { IsValue (expr_at arena.now.exprs e.0) config.now env.now w (value_of result) }
 {
     evaluate(arena, e, config, env, w)
 }
@@ -31,8 +30,8 @@ pub fn truth(arena: &Arena, e: Option<ExprId>, config: &Config, env: &Env<'_>, w
     requires { IfSome e (λ id. id.0 < length arena.now.exprs) }
     ensures value { truth_of result ≡ truth_by own_text (condition_at arena.now.exprs e) config.now env.now w }
 
-    // by the texts of names that are held
-    ensures named { (names : List (List ℕ)) → AreAllHeld names (condition_at arena.now.exprs e) config.now env.now → truth_of result ≡ truth_by (text_of names) (condition_at arena.now.exprs e) config.now env.now w }
+    // by the texts of names
+    ensures named { IsTruth (condition_at arena.now.exprs e) config.now env.now w (truth_of result) }
 {
     match e {
         Some(e) => evaluate(arena, e, config, env, w).truth(),

@@ -49,6 +49,9 @@ function_by named (Named name) = expression.Named (named name.0)
 abbrev pub itself : ℕ → ℕ
 itself n = n
 
+abbrev pub function_of : Func → FunctionOf ℕ
+function_of f = function_by itself f
+
 -- ---- as they are read back
 
 abbrev pub list_of : {N : Type 0} → (ℕ → ExprOf N) → List ExprId → ExprsOf N

@@ -83,7 +83,7 @@ drafted-extended old new b extended held =
     ∙ ap (λ exprs. record d { nodes = map (placed_node old) b.nodes; exprs = exprs }) (exprs-extended old new b.exprs extended held.exprs)
 
 pub IsHeld-extended : (old new : List (List ℕ)) (b : Built) → IsExtended old new → IsHeld old b → IsHeld new b
-IsHeld-extended old new b extended held = record { nodes = AreHeld-extended old new b.nodes extended held.nodes; exprs = AreHeldExprs-extended old new b.exprs extended held.exprs }
+IsHeld-extended old new b extended held = record { nodes = AreHeld-extended old new b.nodes extended held.nodes; exprs = AreHeldExprs-extended old new b.exprs extended held.exprs; few = held.few; few_parts = held.few_parts }
 
 pub text_of-place : (text : List ℕ) (names : List (List ℕ)) (id : ℕ) → place_of text names ≡ Some id → text_of names id ≡ text
 text_of-place text names id place = get_or_from_slice_get names id text [] (place_of-at text names id place)

@@ -1,9 +1,9 @@
 -- What a walk has put so far: the names that are held, and nodes and expressions with the texts of their names.
-use Rattle.std.specs.Prelude.{ℕ, ◌-◌, Bool, true, false, List, [], ◌++◌, length, map, flat_map, count_by, slice_index_or, Option, Some, None, ⊤}
+use Rattle.std.specs.Prelude.{ℕ, ◌-◌, ◌≤◌, Bool, true, false, List, [], ◌++◌, length, map, flat_map, count_by, slice_index_or, Option, Some, None, ⊤}
 use Rattle.spec_bits.specs.Item.{Item}
 use Rattle.spec_expressions.specs.Expression.{Expr}
 use Rattle.spec_instructions.specs.Encodeset.{named_in}
-use Rattle.spec_walk.specs.Limits.{Counts}
+use Rattle.spec_walk.specs.Limits.{Counts, expression_limit}
 use Rattle.spec_walk.specs.Walk.{Walk, Done}
 use Rattle.spec_instructions.specs.Kind as kind
 use Rattle.spec_instructions.specs.Kind.{Kind}
@@ -24,10 +24,12 @@ pub record Drafted : Type 0 where
 abbrev pub drafted : List (List ℕ) → Built → Drafted
 drafted names b = record { names = names; nodes = map (placed_node names) b.nodes; exprs = map (expr_of names) b.exprs; parts = b.parts }
 
--- each name is held
+-- each name is held; there are no more expressions than there may be, and no more parts of lists than expressions
 pub record IsHeld (names : List (List ℕ)) (b : Built) : Type 0 where
   pub nodes : AreHeld names b.nodes
   pub exprs : AreHeldExprs names b.exprs
+  pub few : length b.exprs ≤ expression_limit
+  pub few_parts : length b.parts ≤ length b.exprs
 
 -- a walk that meets nothing
 abbrev pub nothing : Walk ⊤

@@ -140,7 +140,7 @@ impl Draft {
 
     /// Puts a list of expressions, which were put before. All lists together have no more parts than there are
     /// expressions, so no limit is passed.
-    pub fn list(&mut self, parts: &[ExprId]) -> Result<ExprList, ReadFault>
+    pub fn list(&mut self, parts: &[ExprId], here: &Here<'_>) -> Result<ExprList, ReadFault>
         requires parts { All (λ part. part.0 < length self.old.exprs) parts.now }
         requires few { length self.old.parts + length parts.now ≤ length self.old.exprs }
         ensures steps { Puts result nothing (counts self.old) (counts self.new)
@@ -150,11 +150,19 @@ impl Draft {
         ensures nodes { self.new.nodes ≡ self.old.nodes }
         ensures exprs { self.new.exprs ≡ self.old.exprs }
     {
-        // The limit on parts is that on expressions, so only want of memory is left.
-        let Ok(list) = self.builder.list(parts) else {
-            return Err(ReadFault::NoMemory);
-        };
-        Ok(list)
+        match self.builder.list(parts) {
+            Ok(list) => return Ok(list),
+            Err(BuildFault::NoMemory) => return Err(ReadFault::NoMemory),
+            Err(BuildFault::TooMany) => {}
+        }
+        Err(here.fault(Why::TooMany))
+    }
+
+    /// Tells that all lists of expressions together have no more parts than there are expressions.
+    pub fn parts_are_few(&self)
+        ensures { length self.now.parts ≤ length self.now.exprs }
+    {
+        let _builder = &self.builder;
     }
 
     /// Sets the condition of the last node.

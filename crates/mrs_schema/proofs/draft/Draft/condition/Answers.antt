@@ -19,7 +19,7 @@ invariant_of-self c =
     let names = c.self.inside.names in
     let b = c.self.inside.builder in
     subst (IsHeld names) (sym c.condition.ensures.set)
-    (record { nodes = AreHeld-condition names (expr_at b.exprs c.args.e.0) b.nodes (held-at names b.exprs c.args.e.0 c.self.invariant.exprs) c.self.invariant.nodes; exprs = c.self.invariant.exprs })
+    (record { nodes = AreHeld-condition names (expr_at b.exprs c.args.e.0) b.nodes (held-at names b.exprs c.args.e.0 c.self.invariant.exprs) c.self.invariant.nodes; exprs = c.self.invariant.exprs; few = c.self.invariant.few; few_parts = c.self.invariant.few_parts })
 
 -- what is drafted, with the condition of that number
 abbrev saying_so : ℕ → Drafted → Drafted

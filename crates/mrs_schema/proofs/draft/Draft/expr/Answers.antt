@@ -1,5 +1,7 @@
-use Rattle.std.proofs.Common.{◌∙◌, sym, ap, subst, ℕ, [], ◌∷◌, ◌++◌, length, map, Ok, Err}
-use Rattle.std.proofs.lemmas.List.{map_push, length-map}
+use Rattle.std.proofs.Common.{◌∙◌, sym, ap, subst, ℕ, [], ◌∷◌, ◌++◌, length, map, Ok, Err, arith}
+use Rattle.std.proofs.lemmas.List.{map_push, length-map, length_push}
+use Rattle.std.proofs.lemmas.Bool.{leb-false}
+use Rattle.spec_walk.specs.Limits.{expression_limit}
 use Rattle.spec_walk.specs.Event.{TooMany, AnExpression}
 use Rattle.spec_walk.specs.Walk.{gives}
 use Rattle.spec_walk.specs.Spot.{one_more}
@@ -23,7 +25,14 @@ invariant_of-self c =
     let names = c.self.inside.names in
     let b = c.self.inside.builder in
     let own = subst (λ (d : Drafted). HasName (length d.names) c.args.e) (sym c.self.view_is) c.requires.held in
-    subst (IsHeld names) (sym c.in-Ok.ensures.put) (record { nodes = c.self.invariant.nodes; exprs = AreHeldExprs-push names b.exprs b.parts c.args.e own c.self.invariant.exprs })
+    let longer = length_push b.exprs (made (expr_at b.exprs) b.parts c.args.e) in
+    subst (IsHeld names) (sym c.in-Ok.ensures.put)
+    (record {
+      nodes = c.self.invariant.nodes;
+      exprs = AreHeldExprs-push names b.exprs b.parts c.args.e own c.self.invariant.exprs;
+      few = omega (arith, longer, leb-false expression_limit (length b.exprs) c.in-Ok.ensures.room);
+      few_parts = omega (arith, longer, c.self.invariant.few_parts);
+    })
 
 pub returns-in-Ok-clause-steps : goal.returns-in-Ok-clause-steps
 returns-in-Ok-clause-steps c =

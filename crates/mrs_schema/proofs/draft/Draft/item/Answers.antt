@@ -29,7 +29,7 @@ invariant_of-self c =
     let names = c.self.inside.names in
     let held = subst (λ (d : Drafted). IfSome c.args.it.name (λ id. id.0 < length d.names)) (sym c.self.view_is) c.requires.held in
     let nodes = AreHeld-item names (flat_item c.args.it) c.self.inside.builder.nodes (IsHeld-number names c.args.it.name held) c.self.invariant.nodes in
-    subst (IsHeld names) (sym c.in-Ok.ensures.put) (record { nodes = nodes; exprs = c.self.invariant.exprs })
+    subst (IsHeld names) (sym c.in-Ok.ensures.put) (record { nodes = nodes; exprs = c.self.invariant.exprs; few = c.self.invariant.few; few_parts = c.self.invariant.few_parts })
 
 pub returns-in-Ok-clause-steps : goal.returns-in-Ok-clause-steps
 returns-in-Ok-clause-steps c =

@@ -24,7 +24,7 @@ invariant_of-self c =
     let names = c.self.inside.names in
     let own = subst (λ (d : Drafted). c.args.name.0 < length d.names) (sym c.self.view_is) c.requires.held in
     let nodes = AreHeld-node names c.self.inside.builder.nodes c.args.kind c.args.name.0 (option_map (λ p. p.0) c.args.parent) c.self.invariant.nodes own in
-    subst (IsHeld names) (sym c.in-Ok.ensures.put) (record { nodes = nodes; exprs = c.self.invariant.exprs })
+    subst (IsHeld names) (sym c.in-Ok.ensures.put) (record { nodes = nodes; exprs = c.self.invariant.exprs; few = c.self.invariant.few; few_parts = c.self.invariant.few_parts })
 
 pub returns-in-Ok-clause-steps : goal.returns-in-Ok-clause-steps
 returns-in-Ok-clause-steps c =
