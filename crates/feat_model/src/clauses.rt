@@ -95,16 +95,13 @@ fn put_pins(
 }
 
 impl Model {
-    /// The clauses of the constraints and the pins, over variables for the boolean parameters, the atoms and the
-    /// auxiliaries.
-    pub fn cnf(&self, alloc: Global, pins: &[Pin]) -> Result<Cnf, ModelFault>
+    /// Puts the clauses together.
+    fn put_together(&self, alloc: Global, pins: &[Pin]) -> Result<Cnf, ModelFault>
         requires { length pins.now ≤ 4096 }
-        ensures within { IfOk result (λ c. AllByRecursion (IsClause c.0) c.1) }
-        ensures few { IfOk result (λ c. (c.0 ≤ 2147483647) × (length c.1 < 2147483648)) }
-        ensures formed { IsModel self.now }
         ensures cnf { IfOk result (λ c. c ≡ (variables self.now, clauses nat_eq self.now pins.now)) }
         ensures known { OnOk result (unknown_pin nat_eq self.now.names pins.now ≡ None) }
         ensures unknown { (k : ℕ) → result ≡ Err (ModelFault.UnknownFeature k) → unknown_pin nat_eq self.now.names pins.now ≡ Some k }
+        ensures formed { IsModel self.now }
     {
         let mut encoder = Encoder {
             clauses: Vec::new(alloc),
@@ -114,5 +111,22 @@ impl Model {
         put_pins(alloc, &mut encoder, self, pins)?;
         let Encoder { clauses, last } = encoder;
         Ok(Cnf::from_parts(last, clauses))
+    }
+
+    /// The clauses of the constraints and the pins, over variables for the boolean parameters, the atoms and the
+    /// auxiliaries. A fault is that of the first pin that names no boolean parameter.
+    pub fn cnf(&self, alloc: Global, pins: &[Pin]) -> Result<Cnf, ModelFault>
+        requires { length pins.now ≤ 4096 }
+        ensures cnf { IfOk result (λ c. c ≡ (variables self.now, clauses nat_eq self.now pins.now)) }
+        ensures known { OnOk result (unknown_pin nat_eq self.now.names pins.now ≡ None) }
+        ensures unknown { (k : ℕ) → result ≡ Err (ModelFault.UnknownFeature k) → unknown_pin nat_eq self.now.names pins.now ≡ Some k }
+
+        // Each literal is one of the variables, and neither variables nor clauses are too many for the solver.
+        ensures within { IfOk result (λ c. AllByRecursion (IsClause c.0) c.1) }
+        ensures few { IfOk result (λ c. (c.0 ≤ 2147483647) × (length c.1 < 2147483648)) }
+        ensures formed { IsModel self.now }
+    {
+        let cnf = self.put_together(alloc, pins)?;
+        Ok(cnf)
     }
 }

@@ -9,12 +9,12 @@ use crate::faults::ModelFault;
 use crate::model::Model;
 use crate::outcome::Outcome;
 use crate::pin::Pin;
-use ast_eval::Config;
+use ast_eval::{Config, NoMemory};
 use feat_solve::{Answer, solve};
 use std::alloc::Global;
 
 /// The configuration that begins these states: those of the parameters, and then those of the atoms.
-fn configuration(alloc: Global, model: &Model, all: &[bool]) -> Result<Config, ModelFault>
+fn configuration(alloc: Global, model: &Model, all: &[bool]) -> Result<Config, NoMemory>
     requires { states model.now ≤ length all.now }
     ensures names { IfOk result (λ c. c.names ≡ model.now.names) }
     ensures states { IfOk result (λ c. c.states ≡ take (length model.now.names) all.now) }
@@ -27,7 +27,7 @@ fn configuration(alloc: Global, model: &Model, all: &[bool]) -> Result<Config, M
     let mut of_atoms = Vec::new(alloc);
     of_atoms.extend_from_slice(&all[parameters..atoms])?;
     let names = model.names(alloc)?;
-    Ok(Config::new(alloc, names, of_parameters, of_atoms)?)
+    Config::new(alloc, names, of_parameters, of_atoms)
 }
 
 /// The first configuration in which every constraint holds and every pinned parameter has its state; or the clauses of

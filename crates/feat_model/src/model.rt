@@ -4,10 +4,9 @@ ghost use Rattle.std.specs.Prelude.{◌≡◌};
 ghost use Rattle.feat_model.specs.Inside.{IsModel, theory_of};
 
 use crate::formula::Formula;
-use feat_proof::NoMemory;
 use indexmap::IndexSet;
 use mrs_names::NameId;
-use std::alloc::Global;
+use std::alloc::{AllocError, Global};
 
 /// The boolean parameters of features, how many atoms there are, and the constraints as formulas over both.
 ///
@@ -36,7 +35,7 @@ impl std::marker::Model for Model {
 }
 
 impl Model {
-    ghost use Rattle.std.specs.Prelude.{◌≡◌, nat_eq, length, ◌≢◌, position, map, AllPairs, IfOk, IfSome, ◌<◌};
+    ghost use Rattle.std.specs.Prelude.{◌≡◌, nat_eq, length, position, map, IfOk, IfSome, ◌<◌};
     ghost use Rattle.feat_model.specs.Views.{formula_of};
 
     /// The model of these parameters, atoms and constraints.
@@ -82,14 +81,11 @@ impl Model {
     }
 
     /// The names of the boolean parameters, in order.
-    pub(crate) fn names(&self, alloc: Global) -> Result<Vec<NameId>, NoMemory>
+    pub(crate) fn names(&self, alloc: Global) -> Result<Vec<NameId>, AllocError>
         ensures names { IfOk result (λ names. map (λ name. name.0) names.items ≡ self.now.names) }
-        ensures distinct { IfOk result (λ names. AllPairs (λ first second. first ≢ second) names.items) }
+        ensures formed { IsModel self.now }
     {
-        let mut names = Vec::new(alloc);
-        for name in self.names.iter() {
-            names.push(*name)?;
-        }
+        let names = self.names.iter().copied().collect::<Vec<NameId>>(alloc)?;
         Ok(names)
     }
 
