@@ -10,3 +10,4 @@ pub mod Trees
 pub mod Codes
 pub mod Kept
 pub mod Grown
+pub mod OwnTexts
