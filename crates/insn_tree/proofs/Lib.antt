@@ -12,4 +12,6 @@ mod PartLaws
 mod KeptLaws
 pub mod GrownTrees
 pub mod ConditionLaws
+pub mod TruthLaws
+pub mod LayoutLaws
 pub mod OwnTextLaws

@@ -8,6 +8,8 @@ pub mod Leaves
 pub mod Labels
 pub mod Trees
 pub mod Codes
+pub mod Verdicts
 pub mod Kept
 pub mod Grown
+pub mod Layouts
 pub mod OwnTexts
