@@ -1,5 +1,5 @@
 -- The leaves in a bucket are leaves of the tree, and those found among them are all that are found.
-use Rattle.std.proofs.Common.{◌≡◌, ◌∙◌, sym, ap, subst, refl, ℕ, zero, suc, ◌+◌, ◌<◌, ◌≤◌, List, [], ◌∷◌, length, map, All, Bool, true, false, cond, arith, Option, Some, None}
+use Rattle.std.proofs.Common.{◌≡◌, ◌∙◌, sym, ap, subst, refl, ℕ, suc, ◌+◌, ◌<◌, List, [], ◌∷◌, length, map, All, Bool, true, false, cond, arith, Option, Some, None}
 use Rattle.std.specs.Prelude.{slice_index_or, filter}
 use Rattle.std.specs.List.{AllByRecursion}
 use Rattle.std.proofs.lemmas.List.{length-map}
@@ -13,7 +13,7 @@ use Rattle.spec_decode.specs.Found.{Candidate, found}
 use Rattle.spec_decode.specs.Bucket.{Encoding, with_encoding, encodings_from, encodings, fixes_to, agreeing, Bucket, stop, narrow, found_among}
 use Rattle.spec_decode.proofs.BucketLaws.{buckets_are_one, buckets_hold_found}
 use Rattle.mrs_arena.specs.Placed.{leaves_of, path_to}
-use Rattle.insn_tree.specs.Trees.{TreeParts, tree_paths, path_at}
+use Rattle.insn_tree.specs.Trees.{TreeParts, tree_paths}
 use Rattle.insn_decode.specs.declared.found.Found.{Found}
 use Rattle.insn_decode.specs.declared.member.Member.{Member}
 use Rattle.insn_decode.specs.Members.{encoding_of}

@@ -1,12 +1,12 @@
 -- The leaves of a bucket that are found, one after another.
-use Rattle.std.proofs.Common.{◌≡◌, ◌∙◌, sym, ap, subst, refl, ℕ, suc, ◌+◌, ◌<◌, ◌≤◌, List, [], ◌∷◌, ◌++◌, length, map, drop, get_or, All, Bool, true, false, arith, add-one, drop-cons, append_assoc, Some}
+use Rattle.std.proofs.Common.{◌≡◌, ◌∙◌, sym, ap, subst, refl, ℕ, suc, ◌+◌, ◌<◌, List, [], ◌∷◌, ◌++◌, length, map, drop, get_or, All, false, arith, drop-cons, append_assoc}
 use Rattle.std.proofs.lemmas.List.{get_or-map, length-map}
 use Rattle.spec_bits.specs.Pattern.{pattern_holds}
 use Rattle.spec_expressions.specs.Truth.{Truth, Yes, No, Open}
 use Rattle.spec_expressions.specs.Scope.{Configuration}
 use Rattle.spec_instructions.specs.Tree.{Own}
 use Rattle.spec_instructions.specs.Paths.{path_items}
-use Rattle.spec_instructions.specs.Fields.{merged, IsWithinWord}
+use Rattle.spec_instructions.specs.Fields.{merged}
 use Rattle.spec_decode.specs.Verdict.{path_holds, conditions_from, by_items, verdict}
 use Rattle.spec_decode.specs.Found.{Candidate, with_leaf}
 use Rattle.spec_decode.specs.Bucket.{Encoding, found_among}

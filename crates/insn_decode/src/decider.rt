@@ -45,7 +45,8 @@ impl Decider {
     ghost use Rattle.mrs_arena.specs.Placed.{text_of};
     ghost use Rattle.ast_eval.specs.Choices.{configuration_of};
     ghost use Rattle.insn_tree.specs.Trees.{tree_paths};
-    ghost use Rattle.insn_decode.specs.Judged.{AreHeldBy, IsFound};
+    ghost use Rattle.insn_tree.specs.Verdicts.{AreHeldBy};
+    ghost use Rattle.insn_decode.specs.Judged.{IsFound};
     ghost use Rattle.insn_decode.specs.Members.{encoding_of};
     ghost use Rattle.insn_decode.specs.Deciders.{Tells, IsDeciderOf, AreOfBucket};
 

@@ -1,36 +1,21 @@
 //! The verdicts of the leaves in a bucket.
 
-ghost use Rattle.std.specs.Prelude.{◌≡◌, ◌<◌, ◌≤◌, ◌+◌, ℕ, List, All, length, map};
+ghost use Rattle.std.specs.Prelude.{◌≤◌, ◌+◌, ℕ, List, All, length, map};
 ghost use Rattle.spec_decode.specs.Bucket.{found_among};
 ghost use Rattle.ast_eval.specs.Views.{truth_of};
-ghost use Rattle.mrs_arena.specs.Placed.{leaves_of, text_of};
+ghost use Rattle.mrs_arena.specs.Placed.{text_of};
 ghost use Rattle.ast_eval.specs.Choices.{configuration_of};
 ghost use Rattle.insn_tree.specs.Trees.{tree_paths};
 ghost use Rattle.insn_decode.specs.Members.{encoding_of};
-ghost use Rattle.insn_decode.specs.Judged.{IsFound, IsMemberOf, AreHeldBy, IsVerdictOf};
+ghost use Rattle.insn_tree.specs.Verdicts.{AreHeldBy, IsVerdictOf};
+ghost use Rattle.insn_decode.specs.Judged.{IsFound, IsMemberOf};
 
 use crate::found::Found;
 use crate::member::Member;
 use ast_eval::{Config, Truth};
-use insn_tree::{LeafId, Tree};
+use insn_tree::Tree;
 use std::sync::ledger::Ledger;
 use step_count::Steps;
-
-// A stand-in for `Tree::leaf_truth`, until that stands.
-fn leaf_truth<L: Ledger>(
-    tree: &Tree,
-    l: LeafId,
-    w: u32,
-    _config: &Config,
-    steps: &mut Steps<L>,
-) -> Truth
-    requires { l.0 < length (leaves_of tree.now.nodes) }
-    ensures truth { IsVerdictOf tree.now l.0 _config.now w (truth_of result) }
-    ensures step { steps.new ≡ steps.old + 1 }
-{
-    steps.tick();
-    Truth::known(tree.leaf_holds(l, w))
-}
 
 /// The verdict of a leaf on a word. A step is a look at its conditions, and none is taken where the bits that it fixes differ.
 pub(crate) fn verdict_of<L: Ledger>(
@@ -47,7 +32,7 @@ pub(crate) fn verdict_of<L: Ledger>(
     if !member.holds(w) {
         return Truth::No;
     }
-    leaf_truth(tree, member.leaf, w, config, steps)
+    tree.leaf_truth(member.leaf, w, config, steps)
 }
 
 /// Which of these leaves a word is found at. A step is a look at the conditions of a leaf.
