@@ -16,7 +16,7 @@ own_items names [] n = refl
 own_items names (node ∷ nodes) zero = refl
 own_items names (node ∷ nodes) (suc n) = own_items names nodes n
 
-path_items_of : (names : List (List ℕ)) (nodes : List FlatNode) (path : List ℕ) → path_items (map (own_at names nodes) path) ≡ map (item_of names) (flat_map (node_items nodes) path)
+pub path_items_of : (names : List (List ℕ)) (nodes : List FlatNode) (path : List ℕ) → path_items (map (own_at names nodes) path) ≡ map (item_of names) (flat_map (node_items nodes) path)
 path_items_of names nodes [] = refl
 path_items_of names nodes (n ∷ path) =
     ap (λ items. items ++ path_items (map (own_at names nodes) path)) (own_items names nodes n)
@@ -38,7 +38,7 @@ items_at-all P [] each n = All-nil P
 items_at-all P (node ∷ nodes) each zero = All-head (λ node. All P node.items) node nodes each
 items_at-all P (node ∷ nodes) each (suc n) = items_at-all P nodes (All-tail (λ node. All P node.items) node nodes each) n
 
-items_on-all : (P : FlatItem → Type 0) (nodes : List FlatNode) → All (λ node. All P node.items) nodes → (path : List ℕ) → All P (flat_map (node_items nodes) path)
+pub items_on-all : (P : FlatItem → Type 0) (nodes : List FlatNode) → All (λ node. All P node.items) nodes → (path : List ℕ) → All P (flat_map (node_items nodes) path)
 items_on-all P nodes each [] = All-nil P
 items_on-all P nodes each (n ∷ path) = All-append P (node_items nodes n) (flat_map (node_items nodes) path) (items_at-all P nodes each n) (items_on-all P nodes each path)
 

@@ -3,8 +3,10 @@
 
 mod bits;
 mod decider;
+mod found;
 mod gathering;
 mod growing;
+mod judging;
 mod lookup;
 mod member;
 mod node;
@@ -14,3 +16,4 @@ mod splitting;
 mod tests;
 
 pub use decider::Decider;
+pub use found::Found;

@@ -14,3 +14,4 @@ pub mod GrownTrees
 pub mod ConditionLaws
 pub mod TruthLaws
 pub mod LayoutLaws
+pub mod OwnTextLaws
