@@ -12,7 +12,7 @@ use Rattle.mrs_arena.specs.Nodes.{node_items, has_name_id}
 use Rattle.ast_eval.specs.Fields.{last_named, bounds_of}
 use Rattle.ast_eval.specs.EnvView.{range_bounds}
 
-or_none : {X : Type 0} (o : Option X) → option_or o None ≡ o
+pub or_none : {X : Type 0} (o : Option X) → option_or o None ≡ o
 or_none None = refl
 or_none (Some x) = refl
 
