@@ -3,7 +3,6 @@ use Rattle.std.proofs.Common.{◌≡◌, ◌∙◌, sym, ap, ℕ, List, map, All
 use Rattle.std.specs.List.{list_all}
 use Rattle.std.proofs.lemmas.List.Elements.{All-map}
 use Rattle.spec_bits.specs.Item.{item_holds}
-use Rattle.spec_instructions.specs.Paths.{path_items}
 use Rattle.spec_instructions.specs.Fields.{joined_items, merged, IsWithinWord}
 use Rattle.spec_decode.specs.Verdict.{path_holds}
 pub use Rattle.spec_decode.proofs.HoldLaws.{holds_of}

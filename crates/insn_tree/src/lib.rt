@@ -18,6 +18,7 @@ mod leaf_table;
 mod leaf_word;
 mod memory;
 mod namesakes;
+mod path_conditions;
 mod shared;
 #[cfg(test)]
 mod tests;

@@ -9,11 +9,15 @@ use crate::leaf_id::{AliasId, LeafId};
 use crate::leaf_nodes::{LeafNodes, find_leaves};
 use crate::leaf_table::{LeafTable, describe_leaves};
 use crate::memory::NoMemory;
+use crate::path_conditions::conditions_hold;
+use ast_eval::{Config, Truth};
 use bit_pattern::Pattern;
 use mrs_arena::{Arena, NodeId};
 use mrs_names::Names;
 use std::alloc::Global;
 use std::marker::Model;
+use std::sync::ledger::Ledger;
+use step_count::Steps;
 
 /// The tree of an arena, with what is asked of its leaves found once. It never changes, and no call but `new` takes memory.
 ///
@@ -41,13 +45,15 @@ impl Model for Tree {
 }
 
 impl Tree {
-    ghost use Rattle.std.specs.Prelude.{◌≡◌, ◌<◌, ℕ, List, length, map, option_map, slice_get, IfOk, IfSome, Some};
+    ghost use Rattle.std.specs.Prelude.{◌≡◌, ◌<◌, ◌+◌, ℕ, List, length, map, option_map, slice_get, IfOk, IfSome, Some};
     ghost use Rattle.bit_pattern.specs.Views.{digits_of};
     ghost use Rattle.mrs_names.specs.Texts.{AreNames};
     ghost use Rattle.mrs_arena.specs.Placed.{leaves_of, aliases_of, AreHeld};
     ghost use Rattle.spec_instructions.specs.Paths.{label, labelled_leaf};
     ghost use Rattle.spec_instructions.specs.Fields.{merged, fields};
     ghost use Rattle.spec_decode.specs.Verdict.{path_holds};
+    ghost use Rattle.ast_eval.specs.Views.{truth_of};
+    ghost use Rattle.insn_tree.specs.Verdicts.{IsVerdictOf};
     ghost use Rattle.insn_tree.specs.Trees.{IsOf, tree_paths, path_at, label_text, label_number, field_of, IsLeafAbove};
 
     /// The tree of an arena, the texts of whose names are held by `names`.
@@ -163,8 +169,34 @@ impl Tree {
         self.leaves.fields.at(l.0 as usize)
     }
 
+    /// The verdict of a leaf's path on the word `w`: `No` where an item on it does not hold or a condition on it is `No`,
+    /// `Yes` where all hold and all are `Yes`, and else `Open`. Each condition sees the fields that are visible at its own
+    /// node. This is one step.
+    ///
+    /// The tree, the configuration and the names by which they are read are of one release.
+    pub fn leaf_truth<L: Ledger>(
+        &self,
+        l: LeafId,
+        w: u32,
+        config: &Config,
+        steps: &mut Steps<L>,
+    ) -> Truth
+        requires { l.0 < length (leaves_of self.now.nodes) }
+        ensures truth { IsVerdictOf self.now l.0 config.now w (truth_of result) }
+        ensures step { steps.new ≡ steps.old + 1 }
+    {
+        steps.tick();
+        if !self.items_hold(l, w) {
+            return Truth::No;
+        }
+        if !self.leaves.conditioned[l.0 as usize] {
+            return Truth::Yes;
+        }
+        conditions_hold(&self.arena, self.leaf_node(l), config, w)
+    }
+
     /// Whether all items along the leaf's path hold at the word `w`.
-    pub fn leaf_holds(&self, l: LeafId, w: u32) -> bool
+    fn items_hold(&self, l: LeafId, w: u32) -> bool
         requires { l.0 < length (leaves_of self.now.nodes) }
         ensures { (names : List (List ℕ)) → result ≡ path_holds (path_at names self.now l.0) w }
     {

@@ -3,6 +3,8 @@
 
 mod bits;
 mod draft;
+mod expressions;
+mod functions;
 mod items;
 mod names;
 mod nodes;

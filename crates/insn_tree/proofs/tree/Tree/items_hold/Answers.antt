@@ -4,7 +4,7 @@ use Rattle.bit_pattern.specs.Views.{digits_of}
 use Rattle.insn_tree.specs.Trees.{TreeParts}
 use Rattle.insn_tree.proofs.HoldLaws.{holds_of}
 use Rattle.insn_tree.proofs.KeptLaws.{AreLeaves-of, holds_kept}
-use Rattle.insn_tree.proofs.tree.Tree.leaf_holds.Goals as goal
+use Rattle.insn_tree.proofs.tree.Tree.items_hold.Goals as goal
 
 pub returns-in-Some : goal.returns-in-Some
 returns-in-Some c names =
