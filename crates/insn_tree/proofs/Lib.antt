@@ -12,3 +12,4 @@ mod KeptLaws
 pub mod GrownTrees
 pub mod ConditionLaws
 pub mod TruthLaws
+pub mod LayoutLaws

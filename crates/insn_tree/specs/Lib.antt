@@ -11,3 +11,4 @@ pub mod Codes
 pub mod Verdicts
 pub mod Kept
 pub mod Grown
+pub mod Layouts
