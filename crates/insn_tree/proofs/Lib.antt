@@ -1,6 +1,5 @@
 mod ListLaws
 mod RangeLaws
-mod NameLaws
 mod UpwardLaws
 mod WordLaws
 mod HoldLaws
