@@ -27,7 +27,9 @@ returns-in-Some-clause-goes c =
 pub loop-self-preserved : goal.loop-self-preserved
 loop-self-preserved c =
     let inside = c.loop-self.self-inside in
-    let rest = found_left inside.tree.now inside.config.now inside.w (map encoding_of (drop (inside.at + 1) inside.members.now)) in
-    (sym (left_step inside.tree.now inside.config.now inside.w inside.members.now inside.at c.index-self-self.result c.verdict_uncounted-verdict.result c.unless_excluded.result c.loop-self-test.true c.verdict_uncounted-verdict.ensures c.unless_excluded.ensures
-    ∙ ap (λ o. before_others o rest) c.in_default.is)
-    ∙ c.loop-self.invariant.0, c.loop-self.invariant.1)
+    let rest = found_left inside.tree.now inside.config.now inside.w (map encoding_of (drop (inside.at + 1) inside.members.now)) in (
+      sym (left_step inside.tree.now inside.config.now inside.w inside.members.now inside.at c.index-self-self.result c.verdict_uncounted-verdict.result c.unless_excluded.result c.loop-self-test.true c.verdict_uncounted-verdict.ensures c.unless_excluded.ensures
+          ∙ ap (λ o. before_others o rest) c.in_default.is)
+          ∙ c.loop-self.invariant.0,
+      c.loop-self.invariant.1,
+    )
