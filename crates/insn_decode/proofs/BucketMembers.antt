@@ -61,11 +61,14 @@ members_of_tree tree d w members of bucket k e lt =
       within = λ names. of.within names (slice_index_or (map encoding_of members) k e).leaf [] (one names).0;
     }
 
+-- those found among the bucket's leaves are all that are found
+pub all_found : (tree : TreeParts) (d : DeciderParts) (names : List (List ℕ)) (g : Configuration) (w : ℕ) (members : List Member) → IsDeciderOf tree d → ((es : List Encoding) → Tells d es → Bucket w (map encoding_of members) es)
+    → found_among (map encoding_of members) (tree_paths names tree) g w ≡ found (tree_paths names tree) g w
+all_found tree d names g w members of bucket = (buckets_hold_found (tree_paths names tree) g w (map encoding_of members) (of.within names) (bucket (encodings (tree_paths names tree)) (of.tells names))).among
+
 pub found_whole : (tree : TreeParts) (d : DeciderParts) (names : List (List ℕ)) (g : Configuration) (w : ℕ) (members : List Member) (answer : Found) → IsDeciderOf tree d → ((es : List Encoding) → Tells d es → Bucket w (map encoding_of members) es)
     → IsFound answer (found_among (map encoding_of members) (tree_paths names tree) g w) → IsFound answer (found (tree_paths names tree) g w)
-found_whole tree d names g w members answer of bucket is =
-    let paths : List (List Own) = tree_paths names tree in
-    subst (λ (cs : List Candidate). IsFound answer cs) (buckets_hold_found paths g w (map encoding_of members) (of.within names) (bucket (encodings paths) (of.tells names))).among is
+found_whole tree d names g w members answer of bucket is = subst (λ (cs : List Candidate). IsFound answer cs) (all_found tree d names g w members of bucket) is
 
 pub bucket_count : (tree : TreeParts) (d : DeciderParts) (names : List (List ℕ)) (w : ℕ) (members : List Member) (other : List Encoding) → IsDeciderOf tree d → ((es : List Encoding) → Tells d es → Bucket w (map encoding_of members) es)
     → Bucket w other (encodings (tree_paths names tree)) → length members ≡ length other

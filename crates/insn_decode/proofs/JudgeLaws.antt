@@ -16,13 +16,17 @@ use Rattle.insn_decode.specs.declared.member.Member.{Member}
 use Rattle.insn_decode.specs.Members.{encoding_of}
 use Rattle.insn_decode.specs.Judged.{IsMemberOf}
 
--- a leaf whose digits do not hold at the word is excluded
-pub excluded : (tree : TreeParts) (e : Encoding) (names : List (List ℕ)) (g : Configuration) (w : ℕ) → IsMemberOf tree e → pattern_holds e.digits w ≡ false → verdict (path_at names tree e.leaf) g w ≡ No
-excluded tree e names g w is fails =
+-- where a leaf's digits do not hold at the word, an item on its path does not
+pub path_fails : (tree : TreeParts) (e : Encoding) (names : List (List ℕ)) (w : ℕ) → IsMemberOf tree e → pattern_holds e.digits w ≡ false → path_holds (path_at names tree e.leaf) w ≡ false
+path_fails tree e names w is fails =
     let path : List Own = path_at names tree e.leaf in
     let holds : holds_of (merged path) w ≡ path_holds path w = (joined-all w (path_items path) (is.within names)).holds in
-    let all : path_holds path w ≡ false = sym holds ∙ ap (λ o. holds_of o w) (is.fixed names) ∙ fails in
-    ap (λ b. by_items b (conditions_from [] path g w)) all
+    sym holds ∙ ap (λ o. holds_of o w) (is.fixed names) ∙ fails
+
+-- and so it is excluded
+pub excluded : (tree : TreeParts) (e : Encoding) (names : List (List ℕ)) (g : Configuration) (w : ℕ) → IsMemberOf tree e → pattern_holds e.digits w ≡ false → verdict (path_at names tree e.leaf) g w ≡ No
+excluded tree e names g w is fails =
+    ap (λ b. by_items b (conditions_from [] (path_at names tree e.leaf) g w)) (path_fails tree e names w is fails)
 
 with_append : (k : ℕ) (t : Truth) (rest : List Candidate) → with_leaf k t rest ≡ with_leaf k t [] ++ rest
 with_append k Yes rest = refl
@@ -42,6 +46,9 @@ looked_at paths g w members i d before total leaf t lt so number is =
     ∙ so
 
 -- a member of a list of leaves is one of the tree's
+pub member_got : (tree : TreeParts) (members : List Member) (i : ℕ) (d : Member) → All (IsMemberOf tree) (map encoding_of members) → i < length members → IsMemberOf tree (encoding_of (get_or members i d))
+member_got tree members i d all lt =
+    subst (IsMemberOf tree) (get_or-map encoding_of members i d (encoding_of d) lt) (all i (encoding_of d) (omega (arith, lt, length-map members encoding_of)))
+
 pub member_at : (tree : TreeParts) (members : List Member) (i : ℕ) (m : Member) → All (IsMemberOf tree) (map encoding_of members) → i < length members → m ≡ get_or members i m → IsMemberOf tree (encoding_of m)
-member_at tree members i m all lt at =
-    subst (IsMemberOf tree) (get_or-map encoding_of members i m (encoding_of m) lt ∙ ap encoding_of (sym at)) (all i (encoding_of m) (omega (arith, lt, length-map members encoding_of)))
+member_at tree members i m all lt at = subst (λ (x : Member). IsMemberOf tree (encoding_of x)) (sym at) (member_got tree members i m all lt)

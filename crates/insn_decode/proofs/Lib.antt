@@ -7,3 +7,4 @@ pub mod GrowLaws
 pub mod DeciderLaws
 pub mod JudgeLaws
 pub mod BucketMembers
+pub mod LeftLaws

@@ -3,3 +3,4 @@ pub mod Decides
 pub mod Deciders
 pub mod Formed
 pub mod Judged
+pub mod Left

@@ -2,6 +2,7 @@
 #![tactic(auto)]
 
 mod bits;
+mod candidates;
 mod decider;
 mod found;
 mod gathering;
@@ -15,5 +16,6 @@ mod splitting;
 #[cfg(test)]
 mod tests;
 
+pub use candidates::Candidates;
 pub use decider::Decider;
 pub use found::Found;

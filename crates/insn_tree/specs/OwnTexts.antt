@@ -1,5 +1,5 @@
 -- The verdict of a leaf on a word where each number of a name stands for a text of its own.
-use Rattle.std.specs.Prelude.{ℕ, Bool, List, [], ◌∷◌, map, reverse, flat_map, slice_index_or, Option, None}
+use Rattle.std.specs.Prelude.{ℕ, List, [], ◌∷◌, map, reverse, flat_map, slice_index_or, Option, None}
 use Rattle.std.specs.List.{list_all}
 use Rattle.spec_bits.specs.Item.{item_holds}
 use Rattle.spec_expressions.specs.Expression.{ExprOf}
