@@ -8,7 +8,7 @@ use Rattle.spec_refutation.specs.Literals.{literal_true, clause_true, satisfies}
 use Rattle.spec_refutation.specs.Reading.{IsLiteral, IsClause}
 use Rattle.spec_refutation.proofs.Agreement.{clauses_wider, Agree}
 use Rattle.spec_features.specs.Fact.{same_truth}
-use Rattle.spec_features.specs.Formula.{Connective, Conjunction, Disjunction, Implication, Equivalence, Formula, Constant, Variable, Negation, Joined, joins, holds}
+use Rattle.spec_features.specs.Formula.{Connective, Conjunction, Disjunction, Implication, Equivalence, Formula, Constant, Variable, Negation, Joined, joins, holds, Uses}
 use Rattle.spec_features.specs.Clauses.{signed, table, either_clauses, encoded}
 
 -- ---- literals
@@ -116,13 +116,6 @@ table_says v Equivalence x a b sx sa sb =
     (neg_true v x sx) (neg_true v a sa) (neg_true v b sb)
 
 -- ---- variables
-
--- the variables of a formula are from 1 to a number
-abbrev pub Uses : ℕ → Formula → Type 0
-Uses n (Constant b) = Unit {0}
-Uses n (Variable k) = (0 < k) × (k ≤ n)
-Uses n (Negation f) = Uses n f
-Uses n (Joined c f g) = Uses n f × Uses n g
 
 pub uses_wider : (n m : ℕ) → n ≤ m → (f : Formula) → Uses n f → Uses m f
 uses_wider n m le (Constant b) u = tt

@@ -12,10 +12,10 @@ use Rattle.spec_refutation.specs.Reading.{IsClause}
 use Rattle.spec_refutation.specs.First.{assignment}
 use Rattle.spec_refutation.proofs.Agreement.{clauses_wider, Agree}
 use Rattle.spec_features.specs.Fact.{same_truth}
-use Rattle.spec_features.specs.Formula.{Formula, holds}
+use Rattle.spec_features.specs.Formula.{Formula, holds, Uses}
 use Rattle.spec_features.specs.Fits.{PinOf, has_state, agrees}
-use Rattle.spec_features.specs.Clauses.{signed, encoded, all_encoded, last_of, constraint_clauses, pin_clause}
-use Rattle.spec_features.proofs.Encoding.{signed_true, signed_literal, Uses, uses_wider, auxiliaries, Carries, carries_both, carries_parts, last_is, grows, all_both, literal_bounded, clauses_bounded, Says, says}
+use Rattle.spec_features.specs.Clauses.{signed, encoded, all_encoded, last_of, constraint_clauses, constraints_from, pin_clause}
+use Rattle.spec_features.proofs.Encoding.{signed_true, signed_literal, uses_wider, auxiliaries, Carries, carries_both, carries_parts, last_is, grows, all_both, literal_bounded, clauses_bounded, Says, says}
 use Rattle.spec_features.proofs.Assignments.{assignment_at}
 
 -- ---- constraints, one behind the other
@@ -33,9 +33,6 @@ last_of_is u last (f ∷ fs) =
 
 abbrev pub connectives_from : ℕ → List Formula → List (List ℤ)
 connectives_from last fs = flat_map (λ e. e.clauses) (all_encoded last fs)
-
-abbrev pub constraints_from : ℕ → List Formula → List (List ℤ)
-constraints_from last fs = flat_map constraint_clauses (all_encoded last fs)
 
 pub record AllSay (u v : ℕ → Bool) (last : ℕ) (fs : List Formula) : Type 0 where
   pub made : Carries v last (all_auxiliaries u fs) → satisfies v (connectives_from last fs) ≡ true

@@ -10,15 +10,15 @@ use Rattle.spec_refutation.specs.Reading.{IsClause}
 use Rattle.spec_refutation.specs.First.{assignment, Before, IsFirst}
 use Rattle.spec_refutation.proofs.Agreement.{clauses_wider, Agree}
 use Rattle.spec_features.specs.Features.{FeaturesOf}
-use Rattle.spec_features.specs.Formula.{holds}
+use Rattle.spec_features.specs.Formula.{holds, Uses}
 use Rattle.spec_features.specs.Theory.{TheoryOf, theory, states}
 use Rattle.spec_features.specs.Fits.{PinOf, agrees, Fits, IsFirstFitting}
-use Rattle.spec_features.specs.Clauses.{pin_clause, variables, clauses, connective_clauses}
+use Rattle.spec_features.specs.Clauses.{pin_clause, constraints_from, variables, clauses, connective_clauses}
 use Rattle.spec_features.specs.Laws.{Extension, EachExtends, FirstsAgree, FirstsAreFirst}
-use Rattle.spec_features.proofs.Encoding.{Uses, Carries, all_both}
+use Rattle.spec_features.proofs.Encoding.{Carries, all_both}
 use Rattle.spec_features.proofs.Assignments.{assignment_at, more_agree, agree_from, carried, carried_is, carried_agree}
 use Rattle.spec_features.proofs.Uses.{theory_uses}
-use Rattle.spec_features.proofs.Exact.{all_auxiliaries, last_of_is, constraints_from, AllSay, all_say, from_grows, constraints_bounded, pins_say, pins_bounded}
+use Rattle.spec_features.proofs.Exact.{all_auxiliaries, last_of_is, AllSay, all_say, from_grows, constraints_bounded, pins_say, pins_bounded}
 
 -- a theory whose constraints speak of its parameters and atoms alone
 abbrev pub Closed : {N : Type 0} → TheoryOf N → Type 0

@@ -5,3 +5,4 @@ pub mod Assignments
 pub mod Uses
 pub mod Exact
 pub mod Firsts
+pub mod Sizes

@@ -7,9 +7,9 @@ use Rattle.std.proofs.lemmas.List.Quantifiers.{position-Some}
 use Rattle.spec_expressions.specs.Expression.{IsFeatureImplemented, ExprOf, Boolean, Name, Not, Binary, Call, no_exprs, expr}
 use Rattle.spec_features.specs.Features.{FeaturesOf, booleans}
 use Rattle.spec_features.specs.Fact.{same_fact}
-use Rattle.spec_features.specs.Formula.{Connective, connective, Formula}
+use Rattle.spec_features.specs.Formula.{Connective, connective, Formula, Uses}
 use Rattle.spec_features.specs.Theory.{Met, parameter, atom, parameter_or_atom, leaf, both_sides, formula, formulas, theory, states}
-use Rattle.spec_features.proofs.Encoding.{Uses, uses_wider}
+use Rattle.spec_features.proofs.Encoding.{uses_wider}
 
 -- what is met only grows, and a formula speaks of what was met
 pub record IsMet {N : Type 0} (names : List N) (before : List (ExprOf N)) (m : Met N Formula) : Type 0 where

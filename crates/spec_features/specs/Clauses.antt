@@ -59,6 +59,10 @@ last_of last (f ∷ fs) = last_of (encoded last f).last fs
 abbrev pub constraint_clauses : Encoded → List (List ℤ)
 constraint_clauses e = e.clauses ++ (e.literal ∷ []) ∷ []
 
+-- those of constraints one behind the other, behind the variables up to a last one
+abbrev pub constraints_from : ℕ → List Formula → List (List ℤ)
+constraints_from last fs = flat_map constraint_clauses (all_encoded last fs)
+
 -- the clause of a pin: the variable of its parameter, or the negation
 abbrev pub pin_clause : {N : Type 0} → (N → N → Bool) → List N → PinOf N → Option (List ℤ)
 pin_clause same names pin = option_map (λ k. signed pin.1 (k + 1) ∷ []) (position (same pin.0) names)
@@ -68,7 +72,7 @@ abbrev pub variables : {N : Type 0} → TheoryOf N → ℕ
 variables t = last_of (states t) t.constraints
 
 abbrev pub clauses : {N : Type 0} → (N → N → Bool) → TheoryOf N → List (PinOf N) → List (List ℤ)
-clauses same t pins = flat_map constraint_clauses (all_encoded (states t) t.constraints) ++ filter_map (pin_clause same t.names) pins
+clauses same t pins = constraints_from (states t) t.constraints ++ filter_map (pin_clause same t.names) pins
 
 -- the clauses of the connectives alone
 abbrev pub connective_clauses : {N : Type 0} → TheoryOf N → List (List ℤ)

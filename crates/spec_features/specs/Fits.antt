@@ -1,6 +1,6 @@
 -- Configurations of features: a state, on or off, for each boolean parameter in order and then for each atom in order.
-use Rattle.std.specs.Prelude.{◌≡◌, ℕ, Bool, true, false, not, List, length, slice_index_or, Option, Some, None, position}
-use Rattle.std.specs.List.{list_any, list_all}
+use Rattle.std.specs.Prelude.{◌≡◌, ℕ, Bool, true, false, List, length, slice_index_or, Option, Some, None, is_none, position}
+use Rattle.std.specs.List.{list_all}
 use Rattle.spec_refutation.specs.First.{assignment, Before}
 use Rattle.spec_features.specs.Fact.{same_truth}
 use Rattle.spec_features.specs.Formula.{holds}
@@ -12,7 +12,7 @@ PinOf N = N × Bool
 
 -- the first pin, counted from 0, that names no boolean parameter
 abbrev pub unknown_pin : {N : Type 0} → (N → N → Bool) → List N → List (PinOf N) → Option ℕ
-unknown_pin {N = N} same names pins = position (λ (pin : PinOf N). not (list_any (same pin.0) names)) pins
+unknown_pin {N = N} same names pins = position (λ (pin : PinOf N). is_none (position (same pin.0) names)) pins
 
 -- whether the parameter of that number has the pinned state
 abbrev pub has_state : Bool → List Bool → Option ℕ → Bool

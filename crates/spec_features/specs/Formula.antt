@@ -1,5 +1,5 @@
 -- Formulas over variables, in logic of two values.
-use Rattle.std.specs.Prelude.{ℕ, Bool, not, ◌&&◌, ◌||◌, Option, Some, None}
+use Rattle.std.specs.Prelude.{ℕ, ◌+◌, ◌<◌, ◌≤◌, Bool, not, ◌&&◌, ◌||◌, Option, Some, None, ⊤}
 use Rattle.spec_expressions.specs.Expression.{Op, And, Or, Implies, Iff}
 use Rattle.spec_features.specs.Fact.{same_truth}
 
@@ -36,3 +36,17 @@ holds v (Constant b) = b
 holds v (Variable n) = v n
 holds v (Negation f) = not (holds v f)
 holds v (Joined c f g) = joins c (holds v f) (holds v g)
+
+-- the variables of a formula are from 1 to a number
+abbrev pub Uses : ℕ → Formula → Type 0
+Uses n (Constant b) = ⊤
+Uses n (Variable k) = (0 < k) × (k ≤ n)
+Uses n (Negation f) = Uses n f
+Uses n (Joined c f g) = Uses n f × Uses n g
+
+-- how many parts a formula has, itself included
+abbrev pub size : Formula → ℕ
+size (Constant b) = 1
+size (Variable n) = 1
+size (Negation f) = size f + 1
+size (Joined c f g) = size f + size g + 1

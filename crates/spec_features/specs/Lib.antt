@@ -9,4 +9,5 @@ pub mod Formula
 pub mod Theory
 pub mod Fits
 pub mod Clauses
+pub mod Codes
 pub mod Laws

@@ -1,0 +1,6 @@
+pub mod Rooms
+pub mod Positions
+pub mod Steps
+pub mod Bounds
+pub mod Outcomes
+pub mod Distinct

@@ -1,0 +1,15 @@
+use Rattle.std.proofs.Common.{ap, sym, refl, nat_eq, ◌∙◌}
+use Rattle.std.specs.List.{position}
+use Rattle.spec_features.specs.Theory.{TheoryOf}
+use Rattle.feat_model.proofs.Positions.{position-map}
+use Rattle.feat_model.proofs.model.Model.parameter.Goals as goal
+
+pub returns-in-Some-clause-place : goal.returns-in-Some-clause-place
+returns-in-Some-clause-place c =
+    c.in-Some.ensures.index ∙ sym (position-map (nat_eq c.args.name.0) _ (λ name. name.0) c.self.inside.names.keys (λ name. refl))
+    ∙ ap (λ (t : TheoryOf _). position (nat_eq c.args.name.0) t.names) c.self.view_is
+
+pub returns-in-None-clause-place : goal.returns-in-None-clause-place
+returns-in-None-clause-place c =
+    sym (c.in-None.is) ∙ c.get_index_of.ensures.index ∙ sym (position-map (nat_eq c.args.name.0) _ (λ name. name.0) c.self.inside.names.keys (λ name. refl))
+    ∙ ap (λ (t : TheoryOf _). position (nat_eq c.args.name.0) t.names) c.self.view_is

@@ -1,0 +1,4 @@
+pub mod Views
+pub mod Encodes
+pub mod Inside
+pub mod Configures

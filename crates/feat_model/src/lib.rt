@@ -1,0 +1,18 @@
+//! Features as clauses: which configurations fit, which one is first, or a log that shows that none fits.
+#![tactic(auto)]
+
+mod clauses;
+mod configuring;
+mod connective;
+mod encoder;
+mod faults;
+mod formula;
+mod model;
+mod outcome;
+mod pin;
+
+pub use configuring::configure;
+pub use faults::ModelFault;
+pub use model::Model;
+pub use outcome::Outcome;
+pub use pin::Pin;
