@@ -191,7 +191,10 @@ impl Tree {
     ) -> Truth
         requires { l.0 < length (leaves_of self.now.nodes) }
         ensures truth { IsVerdictOf self.now l.0 config.now w (truth_of result) }
+
+        // where each number of a name stands for a text of its own
         ensures own { truth_of result ≡ leaf_verdict self.now config.now w l.0 }
+
         ensures step { steps.new ≡ steps.old + 1 }
     {
         steps.tick();
