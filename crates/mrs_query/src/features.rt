@@ -49,9 +49,9 @@ fn hold_names(alloc: Global, on: Pinned<'_>) -> Result<Names, NoMemory>
     let mut names = Names::new(alloc);
     for name in on {
         // At most 4,096 words name one, so there is a number left.
-        if names.intern(name).is_err() {
+        let Ok(_) = names.intern(name) else {
             return Err(NoMemory);
-        }
+        };
     }
     Ok(names)
 }
