@@ -6,3 +6,5 @@ pub mod DownLaws
 pub mod BitLaws
 pub mod HexSteps
 pub mod Verdicts
+pub mod FeatureLaws
+pub mod LineLaws

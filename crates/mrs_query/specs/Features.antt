@@ -9,5 +9,5 @@ use Rattle.mrs_query.specs.declared.features.Features.{Features}
 -- their names are held, each once, and the configuration has just these, all on
 pub record AreFeatures (on : List (List ℕ)) (f : Features) : Type 0 where
   pub names : f.names ≡ distinct on
-  pub on : configuration_of (text_of f.names) f.config ≡ all_on on
+  pub config : configuration_of (text_of f.names) f.config ≡ all_on on
   pub held : All (λ name. name < length f.names) f.config.names

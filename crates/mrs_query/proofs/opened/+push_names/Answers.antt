@@ -1,16 +1,17 @@
 use Rattle.std.proofs.Common.{◌≡◌, List, [], ◌++◌, Option, option_map, sym, ap, ◌∙◌, append-nil, slice_get, ℕ}
 use Rattle.std.proofs.lemmas.Option.{get_or_from_slice_get}
+use Rattle.mrs_arena.specs.Views.{node_put}
 use Rattle.mrs_query.proofs.DownLaws.{names_to, names_down-step, name_pushed}
 use Rattle.mrs_query.proofs.opened.+push_names.Goals as goal
 use Rattle.mrs_query.proofs.opened.+push_names.Goals.{in-Some+in_ok-push_names-in-Some, in-None}
 
 pub returns : goal.returns
 returns t c =
-    let step = names_down-step c.args.names.now c.args.arena.now c.args.n.0 c.node-node.result.own c.node-node.ensures.own c.node-node.ensures.parent in
-    let to : Option ℕ → List ℕ = λ o. c.args.out.now.items ++ names_to c.args.names.now c.args.arena.now o in
-    let above : c.match-parent.out.items ≡ to c.node-node.result.own.parent = elim c.match-parent.branch [
+    let step = names_down-step c.args.names.now c.args.arena.now.nodes c.args.n.0 (node_put c.args.arena.now.exprs c.node-node.result) c.node-node.ensures.own c.node-node.ensures.parent in
+    let to : Option ℕ → List ℕ = λ o. c.args.out.now.items ++ names_to c.args.names.now c.args.arena.now.nodes o in
+    let above : c.match-parent.out.items ≡ to c.node-node.result.parent = elim c.match-parent.branch [
       | in-Some+in_ok-push_names-in-Some w ↦ ap (λ v. v.items) w.out-is ∙ w.in_ok-push_names-in-Some.ensures ∙ ap to (sym (ap (option_map (λ p. p.0)) w.in-Some.is) ∙ c.parent.ensures)
       | in-None w ↦ ap (λ v. v.items) w.out-is ∙ sym (append-nil c.args.out.now.items) ∙ ap to (sym (ap (option_map (λ p. p.0)) w.in-None.is) ∙ c.parent.ensures)
     ] in
-    let text = get_or_from_slice_get c.args.names.now c.node-node.result.own.name c.text.result.now [] (ap (slice_get c.args.names.now) (sym c.name.ensures) ∙ c.text.ensures.text) in
+    let text = get_or_from_slice_get c.args.names.now c.node-node.result.name c.text.result.now [] (ap (slice_get c.args.names.now) (sym c.name.ensures) ∙ c.text.ensures.text) in
     name_pushed _ _ _ _ _ _ _ _ c.in_ok-extend_from_slice.ensures.items c.in_ok-push.ensures.items above (c.as_bytes.ensures.value ∙ sym text) step
