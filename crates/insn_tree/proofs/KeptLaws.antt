@@ -42,7 +42,7 @@ use Rattle.insn_tree.proofs.RangeLaws.{rank, find_below}
 use Rattle.insn_tree.proofs.WordLaws.{merged-at}
 use Rattle.insn_tree.proofs.HoldLaws.{holds_of, merged-holds}
 use Rattle.insn_tree.proofs.VisibleLaws.{text_field, fields-at}
-use Rattle.insn_tree.proofs.LayoutLaws.{ranges-fit, layout-numbers}
+use Rattle.insn_tree.proofs.LayoutLaws.{ranges-fit, names-held, layout-numbers}
 use Rattle.insn_tree.proofs.LeafLaws.{kept_within, kept_few, held_name}
 use Rattle.insn_tree.proofs.LabelLaws.{label-leaf, leaf_name-held, labelled-leaf, number-leaf}
 
@@ -86,6 +86,9 @@ module _ (nodes : List FlatNode) (table : LeafTable) (kept : AreLeaves nodes tab
 
   pub fields_fit : (fs : List FieldRange) → slice_get table.fields l ≡ Some (map flat_field fs) → All (λ f. f.range.start + f.range.width ≤ 32) fs
   fields_fit fs at = ranges-fit nodes here fs (fields_here fs at) kept.formed
+
+  pub fields_held : (fs : List FieldRange) → slice_get table.fields l ≡ Some (map flat_field fs) → (names : List (List ℕ)) → AreHeld names nodes → All (λ f. f.name.0 < length names) fs
+  fields_held fs at names held = names-held nodes here fs (fields_here fs at) names held
 
   pub fields_kept : (fs : List FieldRange) → slice_get table.fields l ≡ Some (map flat_field fs) → (names : List (List ℕ)) → AreNames names → AreHeld names nodes → map (field_of names) fs ≡ fields (get_or (paths_of names nodes) l [])
   fields_kept fs at names are held =

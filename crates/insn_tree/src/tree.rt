@@ -172,6 +172,7 @@ impl Tree {
         ensures visible { (names : List (List ℕ)) → AreNames names → AreHeld names self.now.nodes
             → map (field_of names) result.now ≡ fields (path_at names self.now l.0) }
         ensures within { All (λ f. f.range.start + f.range.width ≤ 32) result.now }
+        ensures held { (names : List (List ℕ)) → AreHeld names self.now.nodes → All (λ f. f.name.0 < length names) result.now }
     {
         self.leaves.fields.at(l.0 as usize)
     }
