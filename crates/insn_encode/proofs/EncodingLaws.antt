@@ -1,9 +1,9 @@
 -- What is answered by numbers of names and nodes is the encoding along the path.
-use Rattle.std.specs.Prelude.{slice_get, slice_index_or, Result}
-use Rattle.std.proofs.Common.{◌≡◌, ◌≢◌, ◌∙◌, sym, ap, refl, ◌⊎◌, inl, inr, ℕ, zero, suc, ◌+◌, ◌<◌, ◌≤◌, ◌==◌, List, [], ◌∷◌, length, map, get_or, Some, None, Ok, Err, All, arith}
+use Rattle.std.specs.Prelude.{slice_get, slice_index_or, Result, is_none, filter, Bool}
+use Rattle.std.proofs.Common.{◌≡◌, ◌≢◌, ◌∙◌, sym, ap, refl, ◌⊎◌, inl, inr, ℕ, zero, suc, ◌+◌, ◌<◌, ◌≤◌, ◌==◌, List, [], ◌∷◌, length, map, get_or, Some, None, Ok, Err, All, arith, true, false, cond}
 use Rattle.std.proofs.lemmas.Bool.{cases_eq, eq-eqb, ne_eqb}
 use Rattle.std.proofs.lemmas.List.{get_or-map}
-use Rattle.std.proofs.lemmas.List.Elements.{All-map}
+use Rattle.std.proofs.lemmas.List.Elements.{All-map, All-head, All-tail}
 use Rattle.std.proofs.lemmas.Option.{get_or_from_slice_get, slice_get_within}
 use Rattle.spec_expressions.specs.Scope.{Configuration}
 use Rattle.spec_instructions.specs.Tree.{Own}
@@ -11,11 +11,11 @@ use Rattle.spec_instructions.specs.Fields.{fields}
 use Rattle.spec_encoding.specs.Layout.{numbers, rest_in}
 use Rattle.spec_encoding.specs.Refusal.{Refusal, Excluded, unless, with_node}
 use Rattle.spec_encoding.specs.Named.{encoded}
-use Rattle.spec_encoding.specs.PathLayout.{layout, rest_of}
+use Rattle.spec_encoding.specs.PathLayout.{layout, rest_of, fixed_at, is_shown, shown}
 use Rattle.spec_encoding.specs.Encoding.{named_field, encoding}
 use Rattle.spec_encoding.proofs.SameLayouts.{rest_in-same}
 use Rattle.spec_encoding.proofs.Renamed.{renamed, told, unless_excluded, encoded-last}
-use Rattle.spec_encoding.proofs.ByNumbers.{under, encoding-by_numbers}
+use Rattle.spec_encoding.proofs.ByNumbers.{any-range-same, under, encoding-by_numbers}
 use Rattle.mrs_names.specs.declared.name_id.NameId.{NameId}
 use Rattle.mrs_arena.specs.declared.node_id.NodeId.{NodeId}
 use Rattle.mrs_arena.specs.Flat.{FlatNode}
@@ -32,6 +32,9 @@ use Rattle.insn_encode.specs.declared.fault.EncodeFault.TheVariants as fault
 use Rattle.insn_encode.specs.Views.{field_of, pair_of, shown_of, refusal_of, answer_of, Places}
 use Rattle.ast_eval.specs.Choices.{Choices, configuration_of}
 use Rattle.insn_encode.specs.Held.{HoldAll, node_at, leaf_node_at, pair_by, refusal_by, answer_by}
+use Rattle.word_layout.specs.Masks.{fixed_by}
+use Rattle.insn_tree.specs.Views.{flat_field}
+use Rattle.insn_encode.specs.Shown.{is_flat_shown, shown_among, field_by}
 use Rattle.insn_encode.specs.Exclusion.{first_excluding}
 
 -- ---- the path of a leaf
@@ -144,3 +147,34 @@ module _ (names : List (List ℕ)) (nodes : List FlatNode) (c : Choices) (hold :
 
   pub word-is : (w : ℕ) → Places b fs pairs rest (Ok w) → None ≡ first_excluding names nodes n g w → answer_by names (Ok w) ≡ answer
   word-is w is none = ap (λ o. told (text_of names) (unless o Excluded (Ok w))) none ∙ placed-is (Ok w) is
+
+-- ---- shown fields
+
+filter-by : (names : List (List ℕ)) (b : WordLayout) (path : List Own) → ((i : ℕ) → i < 32 → fixed_by b.mask b.value i ≡ fixed_at path i) → (fs : List FieldRange) → All (λ f. f.range.start + f.range.width ≤ 32) fs
+    → map (field_by names) (shown_among b fs) ≡ filter (is_shown path) (map (tree.field_of names) fs)
+filter-by names b path agree [] within = refl
+filter-by names b path agree (f ∷ fs) within =
+    pushed (is_flat_shown b (flat_field f))
+    ∙ ap (λ t. cond t (tree.field_of names f ∷ map (field_by names) (shown_among b fs)) (map (field_by names) (shown_among b fs))) shown-same
+    ∙ ap (λ gs. cond (is_shown path (tree.field_of names f)) (tree.field_of names f ∷ gs) gs) (filter-by names b path agree fs (All-tail (λ f. f.range.start + f.range.width ≤ 32) f fs within))
+  where
+    fits : f.range.start + f.range.width ≤ 32
+    fits = All-head (λ f. f.range.start + f.range.width ≤ 32) f fs within
+
+    shown-same : is_flat_shown b (flat_field f) ≡ is_shown path (tree.field_of names f)
+    shown-same = any-range-same (λ k. is_none (fixed_by b.mask b.value (f.range.start + k))) (λ k. is_none (fixed_at path (f.range.start + k))) 0 f.range.width (λ k from below. ap is_none (agree (f.range.start + k) (omega (arith, fits, below))))
+
+    pushed : (t : Bool) → map (field_by names) (cond t (flat_field f ∷ shown_among b fs) (shown_among b fs)) ≡ cond t (tree.field_of names f ∷ map (field_by names) (shown_among b fs)) (map (field_by names) (shown_among b fs))
+    pushed true = refl
+    pushed false = refl
+
+pub shown-is : (names : List (List ℕ)) (nodes : List FlatNode) (l : ℕ) → l < length (leaves_of nodes) → (b : WordLayout) → numbers_of b ≡ numbers (layout (slice_index_or (paths_of names nodes) l []))
+    → (fs : List FieldRange) → map (tree.field_of names) fs ≡ fields (slice_index_or (paths_of names nodes) l []) → All (λ f. f.range.start + f.range.width ≤ 32) fs
+    → map (field_by names) (shown_among b fs) ≡ shown (slice_index_or (paths_of names nodes) l [])
+shown-is names nodes l below b same fs visible within =
+    let n = get_or (leaves_of nodes) l 0 in
+    let here = get_or-map (path_to names nodes) (leaves_of nodes) l 0 [] below in
+    let agree = (numbers-to b (layout (path_to names nodes n)) (path-binary names nodes n) (same ∙ ap (λ p. numbers (layout p)) here)).fixed in
+    filter-by names b (path_to names nodes n) agree fs within
+    ∙ ap (filter (is_shown (path_to names nodes n))) (visible ∙ ap fields here)
+    ∙ ap shown (sym here)

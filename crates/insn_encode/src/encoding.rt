@@ -8,14 +8,25 @@ ghost use Rattle.mrs_names.specs.Texts.{AreNames};
 ghost use Rattle.mrs_arena.specs.Placed.{text_of, leaves_of, AreHeld};
 ghost use Rattle.ast_eval.specs.Choices.{configuration_of};
 ghost use Rattle.insn_tree.specs.Trees.{path_at};
+ghost use Rattle.insn_encode.specs.Shown.{field_by};
 ghost use Rattle.insn_encode.specs.Held.{HoldAll, pair_by, answer_by, leaf_node_at};
 
 use crate::exclusion::first_excluding;
 use crate::fault::EncodeFault;
 use crate::placing::place;
+use crate::shown_fields::Shown;
 use ast_eval::Config;
 use insn_tree::{LeafId, Tree};
 use mrs_names::NameId;
+
+/// The shown fields of a leaf: the visible ones with a bit that no item on the path fixes, in their order.
+pub fn shown(tree: &Tree, l: LeafId) -> Shown<'_>
+    requires { l.0 < length (leaves_of tree.now.nodes) }
+    ensures { (names : List (List ℕ)) → AreNames names → AreHeld names tree.now.nodes
+        → map (field_by names) result ≡ path.shown (path_at names tree.now l.0) }
+{
+    Shown::new(tree.fields(l), tree.layout(l))
+}
 
 /// The rest of a word at a leaf: the word's free unnamed bits against their defaults, and 0 elsewhere.
 pub fn rest_of(tree: &Tree, l: LeafId, w: u32) -> u32

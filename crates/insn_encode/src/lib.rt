@@ -4,10 +4,12 @@
 mod encoding;
 mod exclusion;
 mod fault;
+mod fields;
 mod names;
 mod placing;
-mod shown;
+mod shown_fields;
 mod values;
 
-pub use encoding::{encode, rest_of};
+pub use encoding::{encode, rest_of, shown};
 pub use fault::EncodeFault;
+pub use shown_fields::Shown;

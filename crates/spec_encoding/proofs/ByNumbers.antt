@@ -15,7 +15,7 @@ use Rattle.spec_encoding.proofs.SameLayouts.{SameLayout, encoded-same}
 use Rattle.spec_encoding.proofs.Renamed.{told, encoded-under, encoded-nodes}
 use Rattle.spec_encoding.proofs.PathLaws.{shown-named, field_shown}
 
-any-range-same : (p q : ℕ → Bool) (a n : ℕ) → ((k : ℕ) → a ≤ k → k < a + n → p k ≡ q k) → list_any p (range_with_len a n) ≡ list_any q (range_with_len a n)
+pub any-range-same : (p q : ℕ → Bool) (a n : ℕ) → ((k : ℕ) → a ≤ k → k < a + n → p k ≡ q k) → list_any p (range_with_len a n) ≡ list_any q (range_with_len a n)
 any-range-same p q a zero same = refl
 any-range-same p q a (suc n) same =
     ap (λ b. b || list_any p (range_with_len (a + 1) n)) (same a (omega arith) (omega arith))

@@ -13,8 +13,8 @@ returns-in_err-word c = λ names hold held.
     let p = err_from_is_err_and c.from_residual.result c.from_residual.ensures.1 in
     ap (answer_by names) (p.1 ∙ ap Err p.2)
     ∙ refused-is names c.args.tree.now.nodes c.args.config.now hold c.args.l.0 (get_or (leaves_of c.args.tree.now.nodes) c.args.l.0 0) (slice_get_or (leaves_of c.args.tree.now.nodes) c.args.l.0 c.requires.leaf) c.layout.result (c.layout.ensures names hold.distinct hold.nodes_held)
-        c.fields.result.now (c.fields.ensures.visible names hold.distinct hold.nodes_held) c.fields.ensures.within (c.fields.ensures.held names hold.nodes_held) c.args.pairs.now held c.args.rest
-        c.in_err-word.field-0.0 c.in_err-word.ensures
+    c.fields.result.now (c.fields.ensures.visible names hold.distinct hold.nodes_held) c.fields.ensures.within (c.fields.ensures.held names hold.nodes_held) c.args.pairs.now held c.args.rest
+    c.in_err-word.field-0.0 c.in_err-word.ensures
 
 pub returns-in-Some : goal.returns-in-Some
 returns-in-Some c = λ names hold held.

@@ -1,7 +1,7 @@
 use Rattle.std.proofs.Common.{◌∙◌, sym}
 use Rattle.std.proofs.lemmas.Bool.{not-true}
 use Rattle.insn_encode.proofs.ShownLaws.{found-next}
-use Rattle.insn_encode.proofs.shown.shown_range.Goals as goal
+use Rattle.insn_encode.proofs.fields.shown_range.Goals as goal
 
 pub loop-field-preserved-then-ne : goal.loop-field-preserved-then-ne
 loop-field-preserved-then-ne c =
