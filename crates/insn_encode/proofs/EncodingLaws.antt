@@ -31,7 +31,8 @@ use Rattle.insn_encode.specs.declared.fault.EncodeFault.{EncodeFault}
 use Rattle.insn_encode.specs.declared.fault.EncodeFault.TheVariants as fault
 use Rattle.insn_encode.specs.Views.{field_of, pair_of, shown_of, refusal_of, answer_of, Places}
 use Rattle.ast_eval.specs.Choices.{Choices, configuration_of}
-use Rattle.insn_encode.specs.Held.{HoldAll, node_at, leaf_node_at, pair_by, refusal_by, answer_by}
+use Rattle.insn_tree.specs.Verdicts.{AreHeldBy}
+use Rattle.insn_encode.specs.Held.{node_at, leaf_node_at, pair_by, refusal_by, answer_by}
 use Rattle.word_layout.specs.Masks.{fixed_by}
 use Rattle.insn_tree.specs.Views.{flat_field}
 use Rattle.insn_encode.specs.Shown.{is_flat_shown, shown_among, field_by}
@@ -91,7 +92,7 @@ refusal-told names (fault.Excluded node) = refl
 
 -- ---- what is answered
 
-module _ (names : List (List ℕ)) (nodes : List FlatNode) (c : Choices) (hold : HoldAll names nodes c) (l n : ℕ) (at : slice_get (leaves_of nodes) l ≡ Some n)
+module _ (names : List (List ℕ)) (nodes : List FlatNode) (c : Choices) (hold : AreHeldBy names nodes c) (l n : ℕ) (at : slice_get (leaves_of nodes) l ≡ Some n)
     (b : WordLayout) (same : numbers_of b ≡ numbers (layout (slice_index_or (paths_of names nodes) l [])))
     (fs : List FieldRange) (visible : map (tree.field_of names) fs ≡ fields (slice_index_or (paths_of names nodes) l [])) (within : All (λ f. f.range.start + f.range.width ≤ 32) fs) (held : All (λ f. f.name.0 < length names) fs)
     (pairs : List (NameId × ℕ)) (held_pairs : All (λ pair. pair.0.0 < length names) pairs) (rest : ℕ) where

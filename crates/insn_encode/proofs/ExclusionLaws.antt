@@ -28,7 +28,8 @@ use Rattle.ast_eval.specs.Choices.{Choices, configuration_of}
 use Rattle.ast_eval.specs.Fields.{items_to, fields_by}
 use Rattle.ast_eval.specs.Worth.{condition_at, IsTruth}
 use Rattle.ast_eval.proofs.PathLaws.{held_to}
-use Rattle.insn_encode.specs.Held.{HoldAll, node_at}
+use Rattle.insn_tree.specs.Verdicts.{AreHeldBy}
+use Rattle.insn_encode.specs.Held.{node_at}
 use Rattle.insn_encode.specs.Exclusion.{excludes, first_excluding}
 
 -- ---- one node
@@ -65,17 +66,17 @@ module _ (names : List (List ℕ)) (nodes : List FlatNode) (n : ℕ) (exprs : Li
       (subst (IsHeldNode names) (get_or_from_slice_get nodes n x x own) all).condition
 
   pub condition-truth : (condition : Option ExprId) (c : Choices) (env : List FlatItem) (w : ℕ) (t : Truth) → option_map (λ e. e.0) condition ≡ node.condition → env ≡ items_to nodes n
-      → fields_by (text_of names) env ≡ fields (path_to names nodes n) → HoldAll names nodes c → IsTruth (condition_at exprs condition) c env w t
+      → fields_by (text_of names) env ≡ fields (path_to names nodes n) → AreHeldBy names nodes c → IsTruth (condition_at exprs condition) c env w t
       → t ≡ truth (own_at names nodes n).condition (configuration_of (text_of names) c) (fields (path_to names nodes n)) w
   condition-truth condition c env w t same items visible hold is =
       let e = condition_at exprs condition in
       let is_own : e ≡ (node_put exprs node).condition = ap (option_map (expr_at exprs)) same in
-      let held : IsHeldExpr names e = subst (IsHeldExpr names) (sym is_own) (held-condition hold.nodes_held) in
+      let held : IsHeldExpr names e = subst (IsHeldExpr names) (sym is_own) (held-condition hold.nodes_are) in
       is names (record {
         distinct = hold.distinct;
         expression = held;
         parameters = hold.parameters;
-        fields = subst (All (IsHeldItem names)) (sym items) (held_to names nodes hold.nodes_held n);
+        fields = subst (All (IsHeldItem names)) (sym items) (held_to names nodes hold.nodes_are n);
       })
       ∙ ap (λ fs. truth (option_map (with_names (text_of names)) e) (configuration_of (text_of names) c) fs w) visible
       ∙ ap (λ o. truth (option_map (with_names (text_of names)) o) (configuration_of (text_of names) c) (fields (path_to names nodes n)) w) is_own

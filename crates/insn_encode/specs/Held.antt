@@ -1,21 +1,13 @@
 -- Names that are held, and answers by their texts.
-use Rattle.std.specs.Prelude.{ℕ, ◌<◌, List, All, reverse, length, slice_index_or, Result, Ok, Err}
+use Rattle.std.specs.Prelude.{ℕ, List, reverse, slice_index_or, Result, Ok, Err}
 use Rattle.spec_encoding.specs.Refusal.{Refusal, UnknownField, DoubledField, MissingField, TooWide, Clash, FixedBit, RestBit, Excluded}
-use Rattle.mrs_names.specs.Texts.{AreNames}
 use Rattle.mrs_names.specs.declared.name_id.NameId.{NameId}
 use Rattle.mrs_arena.specs.Flat.{FlatNode}
 use Rattle.mrs_arena.specs.Paths.{ancestors}
 use Rattle.mrs_arena.specs.Nodes.{parents_of}
-use Rattle.mrs_arena.specs.Placed.{text_of, leaves_of, AreHeld}
-use Rattle.ast_eval.specs.Choices.{Choices}
+use Rattle.mrs_arena.specs.Placed.{text_of, leaves_of}
 use Rattle.insn_encode.specs.declared.fault.EncodeFault.{EncodeFault}
 use Rattle.insn_encode.specs.declared.fault.EncodeFault.TheVariants as fault
-
--- distinct names are held, among them those of the nodes and of the parameters
-pub record HoldAll (names : List (List ℕ)) (nodes : List FlatNode) (c : Choices) : Type 0 where
-  pub distinct : AreNames names
-  pub nodes_held : AreHeld names nodes
-  pub parameters : All (λ name. name < length names) c.names
 
 -- a pair with the text of its name
 abbrev pub pair_by : List (List ℕ) → NameId × ℕ → List ℕ × ℕ

@@ -9,7 +9,8 @@ ghost use Rattle.mrs_arena.specs.Placed.{text_of, leaves_of, AreHeld};
 ghost use Rattle.ast_eval.specs.Choices.{configuration_of};
 ghost use Rattle.insn_tree.specs.Trees.{path_at};
 ghost use Rattle.insn_encode.specs.Shown.{field_by};
-ghost use Rattle.insn_encode.specs.Held.{HoldAll, pair_by, answer_by, leaf_node_at};
+ghost use Rattle.insn_tree.specs.Verdicts.{AreHeldBy};
+ghost use Rattle.insn_encode.specs.Held.{pair_by, answer_by, leaf_node_at};
 
 use crate::exclusion::first_excluding;
 use crate::fault::EncodeFault;
@@ -50,7 +51,7 @@ pub fn encode(
 ) -> Result<u32, EncodeFault>
     requires leaf { l.0 < length (leaves_of tree.now.nodes) }
     requires few { length pairs.now ≤ 256 }
-    ensures { (names : List (List ℕ)) → HoldAll names tree.now.nodes config.now → All (λ pair. pair.0.0 < length names) pairs.now
+    ensures { (names : List (List ℕ)) → AreHeldBy names tree.now.nodes config.now → All (λ pair. pair.0.0 < length names) pairs.now
         → answer_by names result ≡ with_node (leaf_node_at tree.now.nodes l.0) (encoding (path_at names tree.now l.0) (configuration_of (text_of names) config.now) (map (pair_by names) pairs.now) rest) }
 {
     let word = place(tree.fields(l), &tree.layout(l), pairs, rest)?;
