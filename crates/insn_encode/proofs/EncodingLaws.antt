@@ -1,5 +1,5 @@
 -- What is answered by numbers of names and nodes is the encoding along the path.
-use Rattle.std.specs.Prelude.{slice_get, slice_index_or, Result, is_none, filter, Bool}
+use Rattle.std.specs.Prelude.{slice_get, slice_index_or, Result, is_none, filter, Bool, ◌↔◌, ◌^◌}
 use Rattle.std.proofs.Common.{◌≡◌, ◌≢◌, ◌∙◌, sym, ap, refl, ◌⊎◌, inl, inr, ℕ, zero, suc, ◌+◌, ◌<◌, ◌≤◌, ◌==◌, List, [], ◌∷◌, length, map, get_or, Some, None, Ok, Err, All, arith, true, false, cond}
 use Rattle.std.proofs.lemmas.Bool.{cases_eq, eq-eqb, ne_eqb}
 use Rattle.std.proofs.lemmas.List.{get_or-map}
@@ -7,12 +7,14 @@ use Rattle.std.proofs.lemmas.List.Elements.{All-map, All-head, All-tail}
 use Rattle.std.proofs.lemmas.Option.{get_or_from_slice_get, slice_get_within}
 use Rattle.spec_expressions.specs.Scope.{Configuration}
 use Rattle.spec_instructions.specs.Tree.{Own}
-use Rattle.spec_instructions.specs.Fields.{fields}
+use Rattle.spec_instructions.specs.Paths.{path_items}
+use Rattle.spec_instructions.specs.Fields.{fields, IsWithinWord}
 use Rattle.spec_encoding.specs.Layout.{numbers, rest_in}
 use Rattle.spec_encoding.specs.Refusal.{Refusal, Excluded, unless, with_node}
 use Rattle.spec_encoding.specs.Named.{encoded}
 use Rattle.spec_encoding.specs.PathLayout.{layout, rest_of, fixed_at, is_shown, shown}
-use Rattle.spec_encoding.specs.Encoding.{named_field, encoding}
+use Rattle.spec_encoding.specs.Encoding.{named_field, encoding, Encodes}
+use Rattle.spec_encoding.proofs.EncodingLaws.{encoding_is_exact}
 use Rattle.spec_encoding.proofs.SameLayouts.{rest_in-same}
 use Rattle.spec_encoding.proofs.Renamed.{renamed, told, unless_excluded, encoded-last}
 use Rattle.spec_encoding.proofs.ByNumbers.{any-range-same, under, encoding-by_numbers}
@@ -179,3 +181,19 @@ shown-is names nodes l below b same fs visible within =
     filter-by names b (path_to names nodes n) agree fs within
     ∙ ap (filter (is_shown (path_to names nodes n))) (visible ∙ ap fields here)
     ∙ ap shown (sym here)
+
+-- ---- the word and no other
+
+node-Ok : {N : Type 0} (e : ℕ → ℕ) (r : Result ℕ (Refusal N)) (w : ℕ) → with_node e r ≡ Ok w → r ≡ Ok w
+node-Ok e (Ok v) w h = h
+node-Ok e (Err why) w h = absurd (cc)
+
+by-Ok : (names : List (List ℕ)) (r : Result ℕ EncodeFault) (w : ℕ) → answer_by names r ≡ Ok w → r ≡ Ok w
+by-Ok names (Ok v) w h = let same : v ≡ w = cc h in ap Ok same
+by-Ok names (Err why) w h = absurd (cc)
+
+pub exact-word : (names : List (List ℕ)) (path : List Own) (g : Configuration) (pairs : List (List ℕ × ℕ)) (rest : ℕ) (e : ℕ → ℕ) (r : Result ℕ EncodeFault) → answer_by names r ≡ with_node e (encoding path g pairs rest)
+    → All IsWithinWord (path_items path) → rest < 2 ^ 32 → (w : ℕ) → (r ≡ Ok w) ↔ Encodes path g pairs rest w
+exact-word names path g pairs rest e r is within small w =
+    let exact = encoding_is_exact path g pairs rest w within small in
+    (λ h. exact.0 (node-Ok e (encoding path g pairs rest) w (sym is ∙ ap (answer_by names) h)), λ h. by-Ok names r w (is ∙ ap (with_node e) (exact.1 h)))

@@ -1,9 +1,9 @@
 //! Fields, rests and words, by the leaves of a tree.
 
-ghost use Rattle.std.specs.Prelude.{◌≡◌, ◌<◌, ◌≤◌, ℕ, List, All, length, map};
+ghost use Rattle.std.specs.Prelude.{◌≡◌, ◌<◌, ◌≤◌, ◌↔◌, ℕ, List, All, length, map};
 ghost use Rattle.spec_encoding.specs.Refusal.{with_node};
 ghost use Rattle.spec_encoding.specs.PathLayout as path;
-ghost use Rattle.spec_encoding.specs.Encoding.{encoding};
+ghost use Rattle.spec_encoding.specs.Encoding.{encoding, Encodes};
 ghost use Rattle.mrs_names.specs.Texts.{AreNames};
 ghost use Rattle.mrs_arena.specs.Placed.{text_of, leaves_of, AreHeld};
 ghost use Rattle.ast_eval.specs.Choices.{configuration_of};
@@ -51,8 +51,12 @@ pub fn encode(
 ) -> Result<u32, EncodeFault>
     requires leaf { l.0 < length (leaves_of tree.now.nodes) }
     requires few { length pairs.now ≤ 256 }
-    ensures { (names : List (List ℕ)) → AreHeldBy names tree.now.nodes config.now → All (λ pair. pair.0.0 < length names) pairs.now
+    ensures answer { (names : List (List ℕ)) → AreHeldBy names tree.now.nodes config.now → All (λ pair. pair.0.0 < length names) pairs.now
         → answer_by names result ≡ with_node (leaf_node_at tree.now.nodes l.0) (encoding (path_at names tree.now l.0) (configuration_of (text_of names) config.now) (map (pair_by names) pairs.now) rest) }
+
+    // the word is answered exactly where it is encoded
+    ensures word { (names : List (List ℕ)) → AreHeldBy names tree.now.nodes config.now → All (λ pair. pair.0.0 < length names) pairs.now → (w : ℕ)
+        → (result ≡ Ok w) ↔ Encodes (path_at names tree.now l.0) (configuration_of (text_of names) config.now) (map (pair_by names) pairs.now) rest w }
 {
     let word = place(tree.fields(l), &tree.layout(l), pairs, rest)?;
     match first_excluding(tree.arena(), tree.leaf_node(l), word, config) {
