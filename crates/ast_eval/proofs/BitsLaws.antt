@@ -15,7 +15,7 @@ use Rattle.ast_eval.specs.declared.row.Row.TheVariants.{Bits}
 use Rattle.ast_eval.specs.Rows.{limited, joined_with}
 use Rattle.ast_eval.specs.Views.{known}
 
-width : (p : Pattern) → length (digits_of p) ≡ p.width
+pub width : (p : Pattern) → length (digits_of p) ≡ p.width
 width p = length-digits_below p.mask p.value p.width
 
 -- ---- numbers

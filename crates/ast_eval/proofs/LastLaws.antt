@@ -1,9 +1,7 @@
 -- The last item of a name: in a list, and along a path.
-use Rattle.std.proofs.Common.{◌≡◌, ◌∙◌, refl, sym, ap, ℕ, zero, suc, cond, List, [], ◌∷◌, ◌++◌, map, reverse, slice_get, Option, Some, None, option_map, append-nil}
+use Rattle.std.proofs.Common.{◌≡◌, ◌∙◌, refl, sym, ap, ℕ, cond, List, [], ◌∷◌, ◌++◌, map, reverse, slice_get, Option, Some, None, option_map}
 use Rattle.std.specs.Prelude.{flat_map}
 use Rattle.std.specs.Option.{option_or}
-use Rattle.std.proofs.lemmas.Grind.{flat_map-append}
-use Rattle.std.proofs.lemmas.List.{reverse-append}
 use Rattle.bit_pattern.specs.declared.range.Range.{Range}
 use Rattle.mrs_arena.specs.declared.item.Item.{Item}
 use Rattle.mrs_arena.specs.Flat.{FlatItem, FlatNode}
@@ -11,8 +9,9 @@ use Rattle.mrs_arena.specs.Views.{flat_item}
 use Rattle.mrs_arena.specs.Nodes.{node_items, has_name_id}
 use Rattle.ast_eval.specs.Fields.{last_named, bounds_of}
 use Rattle.ast_eval.specs.EnvView.{range_bounds}
+use Rattle.ast_eval.proofs.PathLaws.{items_turned, items-at}
 
-or_none : {X : Type 0} (o : Option X) → option_or o None ≡ o
+pub or_none : {X : Type 0} (o : Option X) → option_or o None ≡ o
 or_none None = refl
 or_none (Some x) = refl
 
@@ -38,27 +37,16 @@ bounds_left name items found = option_or (bounds_in name items) (option_map rang
 -- ---- along a path, from its end
 
 module _ (nodes : List FlatNode) where
-  items_turned : (n : ℕ) (path : List ℕ) → flat_map (node_items nodes) (reverse (n ∷ path)) ≡ flat_map (node_items nodes) (reverse path) ++ node_items nodes n
-  items_turned n path =
-      ap (flat_map (node_items nodes)) (reverse-append (n ∷ []) path)
-      ∙ flat_map-append (node_items nodes) (reverse path) (n ∷ [])
-      ∙ ap (λ items. flat_map (node_items nodes) (reverse path) ++ items) (append-nil (node_items nodes n))
-
   -- the bounds of the last item of a name along a path that is given from its end up
   abbrev pub bounds_up : ℕ → List ℕ → Option (ℕ × ℕ)
   bounds_up name path = option_map bounds_of (last_named name (flat_map (node_items nodes) (reverse path)))
 
   turned : (name n : ℕ) (path : List ℕ) → bounds_up name (n ∷ path) ≡ option_or (option_map bounds_of (last_named name (node_items nodes n))) (bounds_up name path)
-  turned name n path = ap (λ items. option_map bounds_of (last_named name items)) (items_turned n path) ∙ ap (option_map bounds_of) (last_named-append name (flat_map (node_items nodes) (reverse path)) (node_items nodes n)) ∙ go (last_named name (node_items nodes n))
+  turned name n path = ap (λ items. option_map bounds_of (last_named name items)) (items_turned nodes n path) ∙ ap (option_map bounds_of) (last_named-append name (flat_map (node_items nodes) (reverse path)) (node_items nodes n)) ∙ go (last_named name (node_items nodes n))
     where
       go : (o : Option FlatItem) → option_map bounds_of (option_or o (last_named name (flat_map (node_items nodes) (reverse path)))) ≡ option_or (option_map bounds_of o) (bounds_up name path)
       go None = refl
       go (Some it) = refl
-
-items-at : (nodes : List FlatNode) (n : ℕ) (node : FlatNode) → slice_get nodes n ≡ Some node → node_items nodes n ≡ node.items
-items-at [] n node at = absurd (cc)
-items-at (first ∷ nodes) zero node at = let same : first ≡ node = cc in ap (λ (node : FlatNode). node.items) same
-items-at (first ∷ nodes) (suc n) node at = items-at nodes n node at
 
 -- the bounds up a path, by what a node gives
 pub bounds_up-step : (nodes : List FlatNode) (name n : ℕ) (path rest : List ℕ) (node : FlatNode) (items : List FlatItem) (range : Option Range)

@@ -5,11 +5,8 @@ use Rattle.std.proofs.lemmas.Bool.Decides.{nat_tests}
 use Rattle.spec_expressions.specs.Digits.{digits_between}
 use Rattle.bit_pattern.specs.declared.pattern.Pattern.{Pattern}
 use Rattle.bit_pattern.specs.Views.{digits_of}
-use Rattle.bit_pattern.proofs.DigitLaws.{length-digits_below}
 use Rattle.ast_eval.specs.BitNumber.{bit_number}
-
-width : (p : Pattern) → length (digits_of p) ≡ p.width
-width p = length-digits_below p.mask p.value p.width
+use Rattle.ast_eval.proofs.BitsLaws.{width}
 
 no_bit : (n : ℕ) → None ≡ bit_number (pos n) → 256 ≤ n
 no_bit n none = go (nat_lt n 256) refl none

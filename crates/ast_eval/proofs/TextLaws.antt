@@ -22,6 +22,7 @@ use Rattle.ast_eval.specs.Fields.{last_named, bounds_of, item_by, fields_by}
 use Rattle.ast_eval.specs.EnvView.{range_bounds}
 use Rattle.ast_eval.specs.Views.{state_truth}
 use Rattle.ast_eval.specs.Worth.{own_text}
+use Rattle.ast_eval.proofs.LastLaws.{or_none}
 
 -- an item's name, if it has one, is among certain numbers
 abbrev pub IsAmong : (ℕ → Type 0) → FlatItem → Type 0
@@ -76,10 +77,6 @@ module _ (text : ℕ → List ℕ) (P : ℕ → Type 0) (apart : TellApart text 
       go false None = refl
       go false (Some x) = refl
 
-  or_none : {X : Type 0} (o : Option X) → o ≡ option_or o None
-  or_none None = refl
-  or_none (Some x) = refl
-
   -- one field more in front, where it is no deeper item's
   field-step : (name other : ℕ) (same taken : Bool) (it : FlatItem) (deepest : Option FlatItem) (rest : List Field) → field_named (text name) rest ≡ option_map (field_of name) deepest
       → (same ≡ true → other ≡ name) → bytes_eq (text other) (text name) ≡ same → (same ≡ true → taken ≡ is_some deepest)
@@ -89,9 +86,9 @@ module _ (text : ℕ → List ℕ) (P : ℕ → Type 0) (apart : TellApart text 
       ∙ ap (λ b. cond b (Some (field_of other it)) (field_named (text name) rest)) eq
       ∙ ap (λ k. Some (field_of k it)) (is refl)
   field-step name other true taken it (Some deepest) rest before is eq among = ap (λ b. field_named (text name) (cond b rest (field_of other it ∷ rest))) (among refl) ∙ before
-  field-step name other false true it deepest rest before is eq among = before ∙ ap (option_map (field_of name)) (or_none deepest)
+  field-step name other false true it deepest rest before is eq among = before ∙ ap (option_map (field_of name)) (sym (or_none deepest))
   field-step name other false false it deepest rest before is eq among =
-      ap (λ b. cond b (Some (field_of other it)) (field_named (text name) rest)) eq ∙ before ∙ ap (option_map (field_of name)) (or_none deepest)
+      ap (λ b. cond b (Some (field_of other it)) (field_named (text name) rest)) eq ∙ before ∙ ap (option_map (field_of name)) (sym (or_none deepest))
 
   turned : (m n : ℕ) → (m == n) ≡ (n == m)
   turned m n = same_from_decides (m == n) (n == m) (Decides-like (m == n) (λ e. sym e) (λ e. sym e) (Decides-eqb m n)) (Decides-eqb n m)
@@ -99,7 +96,7 @@ module _ (text : ℕ → List ℕ) (P : ℕ → Type 0) (apart : TellApart text 
   visible-step : (name : ℕ) → P name → (it : FlatItem) (items : List FlatItem) → All (IsAmong P) items → field_named (text name) (fields_by text items) ≡ option_map (field_of name) (last_named name items)
       → (o : Option ℕ) → IfSome o P
       → field_named (text name) (visible_item (item_by text it) (option_map text o) (map (item_by text) items) (fields_by text items)) ≡ option_map (field_of name) (option_or (last_named name items) (cond (is_number name o) (Some it) None))
-  visible-step name held it items all before None is = before ∙ ap (option_map (field_of name)) (or_none (last_named name items))
+  visible-step name held it items all before None is = before ∙ ap (option_map (field_of name)) (sym (or_none (last_named name items)))
   visible-step name held it items all before (Some other) is =
       field-step name other (other == name) (list_any (is_named (text other)) (map (item_by text) items)) it (last_named name items) (fields_by text items) before
       (λ same. eqb-true other name same) (apart other name is held ∙ turned name other)

@@ -1,8 +1,5 @@
 //! Bits that are joined part by part.
 
-ghost use Rattle.std.specs.Prelude.{◌≡◌, List, [], ◌∷◌};
-ghost use Rattle.spec_expressions.specs.Operations.{Value};
-
 use crate::kleene::Truth;
 use crate::val::Val;
 use bit_pattern::Pattern;

@@ -1,4 +1,4 @@
-//! Operations at the ends of widths, of whole numbers and of the bits of a slice, and atoms.
+//! Operations at the ends of widths, of whole numbers and of the bits of a slice, and what a configuration keeps.
 
 use crate::bits::{sliced, unsigned};
 use crate::comparison::is_less;
@@ -49,12 +49,15 @@ fn operations_at_their_ends(rt: HostRuntime) -> Result<(), Fail> {
 }
 
 #[test]
-fn atoms_are_read_back(rt: HostRuntime) -> Result<(), Fail> {
+fn choices_are_read_back(rt: HostRuntime) -> Result<(), Fail> {
     let alloc = rt.alloc();
+    let names = vec![in alloc; NameId(7)]?;
+    let states = vec![in alloc; false]?;
     let atoms = vec![in alloc; true, false]?;
-    let config = Config::new(alloc, Vec::new(alloc), Vec::new(alloc), atoms)?;
+    let config = Config::new(alloc, names, states, atoms)?;
+    assert_eq!(rt; config.state(NameId(7)), Some(false));
+    assert_eq!(rt; config.state(NameId(0)), None);
     assert_eq!(rt; config.atom(1), Some(false));
     assert_eq!(rt; config.atom(2), None);
-    assert_eq!(rt; config.state(NameId(0)), None);
     Ok(())
 }

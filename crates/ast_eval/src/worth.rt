@@ -19,7 +19,7 @@ pub fn eval(arena: &Arena, e: ExprId, config: &Config, env: &Env<'_>, w: u32) ->
     requires { e.0 < length arena.now.exprs }
     ensures value { value_of result ≡ value_by own_text (expr_at arena.now.exprs e.0) config.now env.now w }
 
-    // by the texts of names
+    // by the texts of any names that are held
     ensures named { IsValue (expr_at arena.now.exprs e.0) config.now env.now w (value_of result) }
 {
     evaluate(arena, e, config, env, w)
@@ -30,7 +30,7 @@ pub fn truth(arena: &Arena, e: Option<ExprId>, config: &Config, env: &Env<'_>, w
     requires { IfSome e (λ id. id.0 < length arena.now.exprs) }
     ensures value { truth_of result ≡ truth_by own_text (condition_at arena.now.exprs e) config.now env.now w }
 
-    // by the texts of names
+    // by the texts of any names that are held
     ensures named { IsTruth (condition_at arena.now.exprs e) config.now env.now w (truth_of result) }
 {
     match e {

@@ -2,7 +2,7 @@
 use Rattle.std.proofs.Common.{◌≡◌, ◌∙◌, sym, ap, subst, refl, ℕ, ◌-◌, List, [], ◌∷◌, map, take, drop}
 use Rattle.std.specs.Prelude.{slice_range}
 use Rattle.std.specs.List.{take-map, drop-map}
-use Rattle.spec_decode.specs.Bucket.{Encoding}
+use Rattle.spec_decode.specs.Bucket.{Encoding, Bucket}
 use Rattle.insn_tree.specs.declared.leaf_id.LeafId.{LeafId}
 use Rattle.insn_decode.specs.declared.member.Member.{Member}
 use Rattle.insn_decode.specs.declared.node.Node.{Node}
@@ -36,3 +36,8 @@ found_bucket w from to es order order' leaves leaves' os ls are is = record {
       ∙ ap (λ (ks : List ℕ). slice_range ks from to) (ap (λ (l : List LeafId). map (λ (l : LeafId). l.0) l) ls ∙ are ∙ ap (λ (ms : List Member). map (λ (m : Member). m.leaf.0) ms) (sym os) ∙ leaves-encoded order')
       ∙ sym (map-range (λ (e : Encoding). e.leaf) from to (map encoding_of order'));
 }
+
+-- the members in that run are the word's bucket
+pub found_members : (w from to : ℕ) (es : List Encoding) (order order' order'' : List Member) → order' ≡ order → order'' ≡ order → IsRun (map encoding_of order') w from to es → Bucket w (map encoding_of (slice_range order'' from to)) es
+found_members w from to es order order' order'' os os' is =
+    subst (λ (out : List Encoding). Bucket w out es) (sym (map-range encoding_of from to order'' ∙ ap (λ (ms : List Member). slice_range (map encoding_of ms) from to) (os' ∙ sym os))) is

@@ -5,3 +5,6 @@ pub mod SettledLaws
 pub mod LookupLaws
 pub mod GrowLaws
 pub mod DeciderLaws
+pub mod JudgeLaws
+pub mod BucketMembers
+pub mod LeftLaws

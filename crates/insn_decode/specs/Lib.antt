@@ -2,3 +2,5 @@ pub mod Members
 pub mod Decides
 pub mod Deciders
 pub mod Formed
+pub mod Judged
+pub mod Left

@@ -1,14 +1,18 @@
 //! The decision tree of a tree of instructions.
 
+use crate::candidates::Candidates;
+use crate::found::Found;
 use crate::gathering::gather;
 use crate::growing::grow;
+use crate::judging::found_among;
 use crate::lookup::find_run;
 use crate::member::{Member, leaves_of};
 use crate::node::Node;
+use ast_eval::Config;
 use insn_tree::{LeafId, NoMemory, Tree};
 use std::alloc::Global;
-use std::marker::Model;
-use std::sync::ledger::Ledger;
+use std::marker::{Brand, Model};
+use std::sync::ledger::{Blank, Ledger};
 use step_count::Steps;
 
 /// The decision tree of a tree of instructions: tests of bits, down to buckets of leaves. It never changes, and no call but `new` takes memory.
@@ -36,8 +40,15 @@ impl Model for Decider {
 }
 
 impl Decider {
-    ghost use Rattle.std.specs.Prelude.{◌≤◌, ◌+◌, List, IfOk, map};
-    ghost use Rattle.spec_decode.specs.Bucket.{Encoding};
+    ghost use Rattle.std.specs.Prelude.{◌≡◌, ◌<◌, ◌≤◌, ◌+◌, ℕ, List, IfOk, length, map};
+    ghost use Rattle.spec_decode.specs.Bucket.{Encoding, Bucket, encodings};
+    ghost use Rattle.spec_decode.specs.Found.{found};
+    ghost use Rattle.mrs_arena.specs.Placed.{text_of};
+    ghost use Rattle.ast_eval.specs.Choices.{configuration_of};
+    ghost use Rattle.insn_tree.specs.Trees.{tree_paths};
+    ghost use Rattle.insn_tree.specs.Verdicts.{AreHeldBy};
+    ghost use Rattle.insn_decode.specs.Judged.{IsFound};
+    ghost use Rattle.insn_decode.specs.Left.{candidate_of};
     ghost use Rattle.insn_decode.specs.Members.{encoding_of};
     ghost use Rattle.insn_decode.specs.Deciders.{Tells, IsDeciderOf, AreOfBucket};
 
@@ -72,5 +83,59 @@ impl Decider {
     {
         let run = find_run(&self.nodes, &self.order, self.root, w, steps);
         &self.leaves[run.from..run.to]
+    }
+
+    /// Which leaves the word `w` is found at. A step is a test of a bit, or a look at the conditions of a leaf in the word's bucket.
+    ///
+    /// The decider was made from that tree.
+    pub fn decide<L: Ledger>(
+        &self,
+        tree: &Tree,
+        w: u32,
+        config: &Config,
+        steps: &mut Steps<L>,
+    ) -> Found
+        requires { IsDeciderOf tree.now self.now }
+        ensures found { (names : List (List ℕ)) → AreHeldBy names tree.now.nodes config.now → IsFound result (found (tree_paths names tree.now) (configuration_of (text_of names) config.now) w) }
+        ensures cost { (names : List (List ℕ)) (bucket : List Encoding) → Bucket w bucket (encodings (tree_paths names tree.now)) → steps.new ≤ steps.old + (32 + length bucket) }
+    {
+        let members = self.members(w, steps);
+        found_among(tree, config, members, w, steps)
+    }
+
+    /// All leaves at which the word `w` is found, each with its verdict, in order. No steps are counted.
+    ///
+    /// The decider was made from that tree.
+    pub fn candidates<'a>(&'a self, tree: &'a Tree, w: u32, config: &'a Config) -> Candidates<'a>
+        requires { IsDeciderOf tree.now self.now }
+        ensures { (names : List (List ℕ)) → AreHeldBy names tree.now.nodes config.now → map candidate_of result ≡ found (tree_paths names tree.now) (configuration_of (text_of names) config.now) w }
+    {
+        Candidates::new(tree, config, self.members_uncounted(w), w)
+    }
+
+    /// The leaves in the bucket of the word, with what they fix.
+    fn members<L: Ledger>(&self, w: u32, steps: &mut Steps<L>) -> &[Member]
+        ensures bucket { (es : List Encoding) → Tells self.now es → Bucket w (map encoding_of result.now) es }
+        ensures cost { steps.new ≤ steps.old + 32 }
+    {
+        let run = find_run(&self.nodes, &self.order, self.root, w, steps);
+        &self.order[run.from..run.to]
+    }
+
+    /// The same, with steps that are counted for nobody.
+    fn members_from<L: Ledger>(&self, w: u32, blank: Blank) -> &[Member]
+        requires name { blank.name ≡ L.name }
+        requires parts { blank.parts ≡ L.parts }
+        requires some { 0 < L.parts }
+        ensures { (es : List Encoding) → Tells self.now es → Bucket w (map encoding_of result.now) es }
+    {
+        self.members(w, &mut Steps::<L>::new(blank))
+    }
+
+    /// The same. No steps are counted.
+    fn members_uncounted(&self, w: u32) -> &[Member]
+        ensures { (es : List Encoding) → Tells self.now es → Bucket w (map encoding_of result.now) es }
+    {
+        self.members_from::<Brand>(w, Blank::new(1))
     }
 }

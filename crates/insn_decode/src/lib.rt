@@ -2,9 +2,12 @@
 #![tactic(auto)]
 
 mod bits;
+mod candidates;
 mod decider;
+mod found;
 mod gathering;
 mod growing;
+mod judging;
 mod lookup;
 mod member;
 mod node;
@@ -13,4 +16,6 @@ mod splitting;
 #[cfg(test)]
 mod tests;
 
+pub use candidates::Candidates;
 pub use decider::Decider;
+pub use found::Found;

@@ -13,7 +13,9 @@ use Rattle.spec_decode.proofs.HoldLaws.{joined-all}
 use Rattle.mrs_arena.specs.Flat.{FlatItem, FlatNode}
 use Rattle.mrs_arena.specs.Formed.{IsItem, AreNodes}
 use Rattle.mrs_arena.specs.Placed.{item_of, path_to, paths_of, leaves_of}
-use Rattle.insn_tree.proofs.UpwardLaws.{items_to, path_items_to, All-items_to, formed_items}
+use Rattle.ast_eval.specs.Fields.{items_to}
+use Rattle.ast_eval.proofs.PathLaws.{path_items_to, all_to}
+use Rattle.insn_tree.proofs.UpwardLaws.{formed_items}
 
 fit_items : (names : List (List ℕ)) (items : List FlatItem) → All IsItem items → All IsWithinWord (map (item_of names) items)
 fit_items names items formed = All-map IsWithinWord (item_of names) items (λ k d h. (formed k d h).fits)
@@ -21,7 +23,7 @@ fit_items names items formed = All-map IsWithinWord (item_of names) items (λ k 
 -- the items along a path lie within the word
 pub items_within : (names : List (List ℕ)) (nodes : List FlatNode) → AreNodes nodes → (n : ℕ) → All IsWithinWord (path_items (path_to names nodes n))
 items_within names nodes formed n =
-    subst (λ its. All IsWithinWord its) (sym (path_items_to names nodes n)) (fit_items names (items_to nodes n) (All-items_to IsItem nodes n (formed_items nodes formed)))
+    subst (λ its. All IsWithinWord its) (sym (path_items_to names nodes n)) (fit_items names (items_to nodes n) (all_to IsItem nodes (formed_items nodes formed) n))
 
 pub paths_within : (names : List (List ℕ)) (nodes : List FlatNode) → AreNodes nodes → AreWithinWord (paths_of names nodes)
 paths_within names nodes formed = All-map (λ path. All IsWithinWord (path_items path)) (path_to names nodes) (leaves_of nodes) (λ k d h. items_within names nodes formed (slice_index_or (leaves_of nodes) k d))
@@ -32,5 +34,5 @@ merged-holds names nodes formed n w =
     let flat = items_to nodes n in
     let items = path_items_to names nodes n in
     ap (λ its. holds_of (joined_items its) w) items
-    ∙ (joined-all w (map (item_of names) flat) (fit_items names flat (All-items_to IsItem nodes n (formed_items nodes formed)))).holds
+    ∙ (joined-all w (map (item_of names) flat) (fit_items names flat (all_to IsItem nodes (formed_items nodes formed) n))).holds
     ∙ ap (λ its. list_all (λ it. item_holds it w) its) (sym items)

@@ -30,7 +30,9 @@ use Rattle.insn_tree.proofs.ListLaws.{All-unmap}
 use Rattle.insn_tree.specs.Upward.{onto}
 use Rattle.insn_tree.specs.Visible.{FlatField, with_named, with_field, has_field_name, field_named, fields_at}
 use Rattle.insn_tree.specs.Layouts.{fix_first, should_last, fixed_at, should_be_at, some_covers, layout_at}
-use Rattle.insn_tree.proofs.UpwardLaws.{items_to, gathered-onto, path_items_to, All-items_to, formed_items, held_items}
+use Rattle.ast_eval.specs.Fields.{items_to}
+use Rattle.ast_eval.proofs.PathLaws.{path_items_to, all_to, held_to}
+use Rattle.insn_tree.proofs.UpwardLaws.{gathered-onto, formed_items}
 use Rattle.insn_tree.proofs.VisibleLaws.{text_field, fields-at}
 
 -- ---- fixed bits and should-be bits
@@ -92,7 +94,7 @@ turned P (f ∷ fs) all =
 pub fields-fit : (nodes : List FlatNode) → AreNodes nodes → (n : ℕ) → All FitsWord (fields_at nodes n)
 fields-fit nodes formed n =
     turned FitsWord _
-    (subst (All FitsWord) (sym (gathered-onto with_field nodes n [])) (onto_fit (items_to nodes n) (All-items_to IsItem nodes n (formed_items nodes formed))))
+    (subst (All FitsWord) (sym (gathered-onto with_field nodes n [])) (onto_fit (items_to nodes n) (all_to IsItem nodes (formed_items nodes formed) n)))
 
 -- and each has a name that is held
 abbrev pub HasHeldName : List (List ℕ) → FlatField → Type 0
@@ -113,7 +115,7 @@ onto_held names (it ∷ items) all = named_held names it it.name (onto with_fiel
 fields-held : (names : List (List ℕ)) (nodes : List FlatNode) → AreHeld names nodes → (n : ℕ) → All (HasHeldName names) (fields_at nodes n)
 fields-held names nodes held n =
     turned (HasHeldName names) _
-    (subst (All (HasHeldName names)) (sym (gathered-onto with_field nodes n [])) (onto_held names (items_to nodes n) (All-items_to (IsHeldItem names) nodes n (held_items names nodes held))))
+    (subst (All (HasHeldName names)) (sym (gathered-onto with_field nodes n [])) (onto_held names (items_to nodes n) (held_to names nodes held n)))
 
 covers-text : (names : List (List ℕ)) (i : ℕ) (fs : List FlatField) → list_any (λ f. covers f.start f.width i) (map (text_field names) fs) ≡ some_covers i fs
 covers-text names i [] = refl

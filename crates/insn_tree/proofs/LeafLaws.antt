@@ -23,7 +23,7 @@ use Rattle.mrs_arena.proofs.PathLaws.{ancestors-step}
 use Rattle.mrs_arena.proofs.PreorderLaws.{IsPreorder-parent}
 use Rattle.insn_tree.specs.Leaves.{name_at, leaf_names, leaves_before, leaf_number, leaf_above, counted_above, sakes}
 use Rattle.insn_tree.proofs.RangeLaws.{range_below, keeps_more, keeps_yes}
-use Rattle.insn_tree.proofs.NameLaws.{text_eq}
+use Rattle.mrs_arena.proofs.NameLaws.{text_eq}
 
 -- ---- nodes of a kind
 

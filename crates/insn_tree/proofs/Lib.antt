@@ -1,6 +1,5 @@
 mod ListLaws
 mod RangeLaws
-mod NameLaws
 mod UpwardLaws
 mod WordLaws
 mod HoldLaws
@@ -14,3 +13,4 @@ pub mod GrownTrees
 pub mod ConditionLaws
 pub mod TruthLaws
 pub mod LayoutLaws
+pub mod OwnTextLaws

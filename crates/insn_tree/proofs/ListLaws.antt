@@ -1,14 +1,8 @@
 -- Laws of lists that are mapped.
-use Rattle.std.proofs.Common.{◌≡◌, ◌∙◌, sym, ap, refl, subst, ℕ, zero, suc, ◌+◌, ◌<◌, List, [], ◌∷◌, ◌++◌, length, map, reverse, drop, get_or, slice_get, Some, All, arith, append_assoc}
+use Rattle.std.proofs.Common.{◌≡◌, ◌∙◌, sym, ap, refl, subst, ℕ, ◌+◌, ◌<◌, List, [], ◌∷◌, ◌++◌, length, map, reverse, drop, get_or, All, arith, append_assoc}
 use Rattle.std.proofs.lemmas.List.{length-map, drop_more, get_or_default}
 use Rattle.std.proofs.Math.ListN as mathlib
 use Rattle.std.proofs.lemmas.List as std
-
--- an element within a list is got
-pub slice_get-within : {X : Type 0} (xs : List X) (k : ℕ) (d : X) → k < length xs → slice_get xs k ≡ Some (get_or xs k d)
-slice_get-within [] k d h = absurd (omega arith)
-slice_get-within (x ∷ xs) zero d h = refl
-slice_get-within (x ∷ xs) (suc k) d h = slice_get-within xs k d (omega arith)
 
 pub map-twice : {X Y Z : Type 0} (f : X → Y) (g : Y → Z) (xs : List X) → map g (map f xs) ≡ map (λ x. g (f x)) xs
 map-twice f g [] = refl

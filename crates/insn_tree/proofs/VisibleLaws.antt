@@ -18,8 +18,10 @@ use Rattle.mrs_arena.specs.Nodes.{has_name_id}
 use Rattle.mrs_arena.specs.Placed.{text_of, item_of, path_to, IsHeldItem, AreHeld}
 use Rattle.insn_tree.specs.Upward.{onto}
 use Rattle.insn_tree.specs.Visible.{FlatField, has_field_name, field_named, with_named, with_field, fields_at}
-use Rattle.insn_tree.proofs.NameLaws.{text_eq}
-use Rattle.insn_tree.proofs.UpwardLaws.{items_to, gathered-onto, path_items_to, All-items_to, held_items}
+use Rattle.mrs_arena.proofs.NameLaws.{text_eq}
+use Rattle.ast_eval.specs.Fields.{items_to}
+use Rattle.ast_eval.proofs.PathLaws.{path_items_to, held_to}
+use Rattle.insn_tree.proofs.UpwardLaws.{gathered-onto}
 
 -- a field by the text of its name
 abbrev pub text_field : List (List ℕ) → FlatField → Field
@@ -89,7 +91,7 @@ module _ (names : List (List ℕ)) (are : AreNames names) where
   pub fields-at : (nodes : List FlatNode) → AreHeld names nodes → (n : ℕ) → map (text_field names) (fields_at nodes n) ≡ fields (path_to names nodes n)
   fields-at nodes held n =
       ap (λ fs. map (text_field names) (reverse fs)) (gathered-onto with_field nodes n [])
-      ∙ sym (visible_onto (items_to nodes n) (All-items_to (IsHeldItem names) nodes n (held_items names nodes held)))
+      ∙ sym (visible_onto (items_to nodes n) (held_to names nodes held n))
       ∙ ap visible (sym (path_items_to names nodes n))
 
 -- ---- a field that is put

@@ -18,7 +18,9 @@ use Rattle.mrs_arena.specs.Flat.{FlatItem, FlatNode, with_text}
 use Rattle.mrs_arena.specs.Placed.{item_of, path_to}
 use Rattle.insn_tree.specs.Upward.{onto}
 use Rattle.insn_tree.specs.Words.{join_item, merged_at}
-use Rattle.insn_tree.proofs.UpwardLaws.{items_to, gathered-onto, path_items_to}
+use Rattle.ast_eval.specs.Fields.{items_to}
+use Rattle.ast_eval.proofs.PathLaws.{path_items_to}
+use Rattle.insn_tree.proofs.UpwardLaws.{gathered-onto}
 
 -- ---- a path
 

@@ -12,3 +12,4 @@ pub mod Verdicts
 pub mod Kept
 pub mod Grown
 pub mod Layouts
+pub mod OwnTexts

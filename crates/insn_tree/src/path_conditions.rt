@@ -1,7 +1,10 @@
 //! What the conditions along a path say of a word.
 
-ghost use Rattle.std.specs.Prelude.{◌<◌, length};
+ghost use Rattle.std.specs.Prelude.{◌≡◌, ◌<◌, length};
+ghost use Rattle.mrs_arena.specs.Paths.{ancestors};
+ghost use Rattle.mrs_arena.specs.Nodes.{parents_of};
 ghost use Rattle.ast_eval.specs.Views.{truth_of};
+ghost use Rattle.insn_tree.specs.OwnTexts.{conditions_up};
 ghost use Rattle.insn_tree.specs.Verdicts.{AreConditions};
 
 use ast_eval::{Config, Env, Truth, truth};
@@ -10,7 +13,8 @@ use mrs_arena::{Arena, NodeId};
 /// Whether the conditions of a node and of those above it hold, each under the fields that are visible at its own node.
 pub(crate) fn conditions_hold(arena: &Arena, n: NodeId, config: &Config, w: u32) -> Truth
     requires { n.0 < length arena.now.nodes }
-    ensures { AreConditions arena.now.nodes n.0 config.now w (truth_of result) }
+    ensures named { AreConditions arena.now.nodes n.0 config.now w (truth_of result) }
+    ensures own { truth_of result ≡ conditions_up arena.now.nodes config.now w (ancestors (parents_of arena.now.nodes) n.0) }
 {
     let node = arena.node(n);
     let above = match node.parent() {

@@ -57,6 +57,7 @@ impl Tree {
     ghost use Rattle.word_layout.specs.Views.{numbers_of};
     ghost use Rattle.spec_decode.specs.Verdict.{path_holds};
     ghost use Rattle.ast_eval.specs.Views.{truth_of};
+    ghost use Rattle.insn_tree.specs.OwnTexts.{leaf_verdict};
     ghost use Rattle.insn_tree.specs.Verdicts.{IsVerdictOf};
     ghost use Rattle.spec_decode.specs.Bucket.{AreWithinWord};
     ghost use Rattle.insn_tree.specs.Trees.{IsOf, tree_paths, path_at, label_text, label_number, field_of, IsLeafAbove};
@@ -191,6 +192,7 @@ impl Tree {
     ) -> Truth
         requires { l.0 < length (leaves_of self.now.nodes) }
         ensures truth { IsVerdictOf self.now l.0 config.now w (truth_of result) }
+        ensures own { truth_of result ≡ leaf_verdict self.now config.now w l.0 }
         ensures step { steps.new ≡ steps.old + 1 }
     {
         steps.tick();

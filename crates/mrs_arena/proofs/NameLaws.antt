@@ -5,7 +5,8 @@ use Rattle.std.proofs.lemmas.Slice.Eq.{bytes_eq-Decides}
 use Rattle.mrs_names.specs.Texts.{place_of, AreNames}
 use Rattle.mrs_arena.specs.Placed.{text_of}
 
-slice_get-within : {X : Type 0} (xs : List X) (k : ℕ) (d : X) → k < length xs → slice_get xs k ≡ Some (get_or xs k d)
+-- an element within a list is got
+pub slice_get-within : {X : Type 0} (xs : List X) (k : ℕ) (d : X) → k < length xs → slice_get xs k ≡ Some (get_or xs k d)
 slice_get-within [] k d h = absurd (omega arith)
 slice_get-within (x ∷ xs) zero d h = refl
 slice_get-within (x ∷ xs) (suc k) d h = slice_get-within xs k d (omega arith)

@@ -125,27 +125,3 @@ impl Sink for StderrSink {
         self.stderr.write(bytes)
     }
 }
-
-#[cfg(test)]
-mod tests {
-    use super::*;
-    use crate::{fill, write_whole};
-
-    #[test]
-    fn streams_are_read_and_written(rt: HostRuntime) {
-        let mut out = StdoutSink::new(&rt);
-        let mut err = StderrSink::new(&rt);
-        assert_eq!(rt; write_whole(&mut out, b"to standard output\n"), Ok(()));
-        assert_eq!(rt; write_whole(&mut err, b"to standard error\n"), Ok(()));
-        assert_eq!(rt; out.write(b""), Ok(0));
-        let mut input = StdinSource::new(&rt);
-        let mut buf = [0u8; 8];
-        assert_eq!(rt; fill(&mut input, &mut buf), Ok(0));
-        let counts = [
-            out.stdout.faults.count,
-            err.stderr.faults.count,
-            input.stdin.faults.count,
-        ];
-        assert_eq!(rt; counts, [0, 0, 0]);
-    }
-}

@@ -1,4 +1,3 @@
-pub mod Chain
 pub mod Json
 pub mod Streaming
 pub mod TextParts

@@ -1,8 +1,10 @@
 pub mod End
 pub mod Ended
+pub mod Codes
+pub mod Machines
+pub mod Features
 pub mod Opened
 pub mod Fulfilled
-pub mod Leaves
 pub mod Down
 pub mod Pieces
 pub mod Texts

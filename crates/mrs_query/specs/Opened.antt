@@ -5,6 +5,10 @@ use Rattle.spec_io.specs.States.{Shelving}
 use Rattle.serde_json.specs.Data.{Data}
 use Rattle.serde_json.specs.View.{view}
 use Rattle.serde_json.specs.declared.value.Value.{Value}
+use Rattle.spec_decode.specs.Machine.{Machine}
+use Rattle.mrs_arena.specs.Flat.{FlatNode}
+use Rattle.mrs_arena.specs.Placed.{text_of, paths_of}
+use Rattle.ast_eval.specs.Choices.{Choices, configuration_of}
 use Rattle.spec_run.specs.End as run
 use Rattle.spec_run.specs.Opening as opening
 use Rattle.spec_run.specs.Logs as logs
@@ -21,11 +25,17 @@ Parsed value (Ok v) = value ≡ Some (view v)
 Parsed value (Err (unread.Refused fault)) = (value ≡ None) × (fault_of fault ≡ run.Json)
 Parsed value (Err unread.NoMemory) = ⊤
 
--- the set that a JSON value gives
-abbrev pub Read : List ℕ → Option Data → Result opening.Opened Unread → Type 0
-Read isa value (Ok opened) = opening.of_value isa value ≡ Ok opened
-Read isa value (Err (unread.Refused fault)) = opening.of_value isa value ≡ Err (opening.Refused run.Insns (fault_of fault))
-Read isa value (Err unread.NoMemory) = ⊤
+-- the set that a JSON value gives, with the features of these names
+abbrev pub Read : List ℕ → List (List ℕ) → Option Data → Result Machine Unread → Type 0
+Read isa on value (Ok opened) = opening.of_value isa on value ≡ Ok opened
+Read isa on value (Err (unread.Refused fault)) = opening.of_value isa on value ≡ Err (opening.Refused run.Insns (fault_of fault))
+Read isa on value (Err unread.NoMemory) = ⊤
+
+-- the machine of the paths to these nodes' leaves, with the configuration
+abbrev pub IsMachineOf : List (List ℕ) → List FlatNode → Choices → Result Machine Unread → Type 0
+IsMachineOf names nodes config (Ok opened) = opened ≡ record { paths = paths_of names nodes; configuration = configuration_of (text_of names) config }
+IsMachineOf names nodes config (Err (unread.Refused fault)) = ⊥
+IsMachineOf names nodes config (Err unread.NoMemory) = ⊤
 
 -- the log of a text
 abbrev pub ReadLog : List ℕ → Result logs.Checked Unread → Type 0

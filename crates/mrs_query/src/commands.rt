@@ -13,6 +13,7 @@ use crate::Status;
 use crate::commands::leaf::show_leaf;
 use crate::commands::list::list_stream;
 use crate::commands::proof::check_log;
+use crate::features::Features;
 use crate::opening::open_release;
 use crate::opening_error::OpeningError;
 use crate::opening_log::open_log;
@@ -40,12 +41,14 @@ pub(crate) fn fulfil<V: Shelf, S: Source, K: Sink>(
         (λ _. (input.new ≡ input.old) × (out.new ≡ out.old)) }
 {
     match asked {
-        Request::List { release, on: _ } => {
-            let opened = open_release(alloc, shelf, release)?;
+        Request::List { release, on } => {
+            let features = Features::on(alloc, on)?;
+            let opened = open_release(alloc, shelf, release, features)?;
             Ok(list_stream(alloc, &opened, input, out))
         }
         Request::Leaf { release, label } => {
-            let opened = open_release(alloc, shelf, release)?;
+            let features = Features::none(alloc)?;
+            let opened = open_release(alloc, shelf, release, features)?;
             Ok(show_leaf(alloc, &opened, label, out))
         }
         Request::Proof { log } => {

@@ -2,12 +2,13 @@
 #![tactic(auto)]
 
 mod commands;
+mod deciding;
+mod features;
 mod fetching;
 mod hex;
 mod label;
 mod line;
 mod lister;
-mod matches;
 mod message;
 mod opened;
 mod opened_log;

@@ -5,15 +5,12 @@ ghost use Rattle.spec_lines.specs.Listing.{words_in, listing, rest_line};
 use crate::hex::push_hex;
 use crate::line::push_line;
 use crate::opened::Opened;
-use insn_tree::LeafId;
 use std::alloc::AllocError;
 
-/// Appends the lines of the whole words of a piece that stands at an offset of the stream. `leaves` is room that is
-/// used anew.
+/// Appends the lines of the whole words of a piece that stands at an offset of the stream.
 pub(crate) fn push_lines(
     out: &mut Vec<u8>,
     opened: &Opened,
-    leaves: &mut Vec<LeafId>,
     offset: u64,
     piece: &[u8],
 ) -> Result<(), AllocError>
@@ -26,7 +23,6 @@ pub(crate) fn push_lines(
         push_line(
             out,
             opened,
-            leaves,
             at,
             u32::from_le_bytes([*a, *b, *c, *d]),
         )?;

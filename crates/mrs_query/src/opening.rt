@@ -1,15 +1,21 @@
 //! What a command names is opened: a document is fetched, read as JSON, and read as the tree of one of its sets.
-ghost use Rattle.std.specs.Prelude.{◌≡◌, ◌≤◌, Some};
+ghost use Rattle.std.specs.Prelude.{◌≡◌, ◌≤◌, ◌<◌, ℕ, List, Some, All, length};
+ghost use Rattle.mrs_arena.specs.Placed.{AreHeld};
 ghost use Rattle.serde_json.specs.View.{view};
-ghost use Rattle.spec_run.specs.Opening.{json_in, release_opened};
+ghost use Rattle.spec_run.specs.Opening.{json_in, machine_opened};
 ghost use Rattle.mrs_command.specs.Commands.{release_of};
-ghost use Rattle.mrs_query.specs.Opened.{Read, Opens, Parsed};
+ghost use Rattle.mrs_query.specs.Features.{AreFeatures};
+ghost use Rattle.mrs_query.specs.Opened.{Read, Opens, Parsed, IsMachineOf};
 
+use crate::features::Features;
 use crate::fetching::fetch_document;
 use crate::opened::Opened;
 use crate::opening_error::OpeningError;
 use crate::{DocFault, Which};
+use ast_eval::Config;
+use insn_decode::Decider;
 use insn_tree::Tree;
+use mrs_arena::Arena;
 use mrs_command::Release;
 use mrs_io::Shelf;
 use mrs_names::Names;
@@ -26,31 +32,37 @@ pub(crate) enum Unread {
     NoMemory,
 }
 
-/// The set that a command asks for, or why it is not opened.
+/// The set that a command asks for, with the features that are on, or why it is not opened.
 pub(crate) fn open_release<V: Shelf>(
     alloc: Global,
     shelf: &mut V,
     release: Release<'_>,
+    features: Features,
 ) -> Result<Opened, OpeningError>
-    ensures opens { Opens (release_opened (release_of release.entry)) (V.shelving shelf.old) (V.shelving shelf.new) result }
+    ensures opens { (on : List (List ℕ)) → AreFeatures on features → Opens (machine_opened (release_of release.entry) on) (V.shelving shelf.old) (V.shelving shelf.new) result }
     ensures same { (V.shelving shelf.new).documents ≡ (V.shelving shelf.old).documents }
     ensures later { (V.shelving shelf.old).faults ≤ (V.shelving shelf.new).faults }
 {
     let which = Which::Insns;
     let bytes = fetch_document(alloc, shelf, which, release.insns)?;
-    match read_document(alloc, &bytes, release.isa) {
+    match read_document(alloc, &bytes, release.isa, features) {
         Ok(opened) => Ok(opened),
         Err(Unread::Refused(fault)) => Err(OpeningError::Refused { which, fault }),
         Err(Unread::NoMemory) => Err(OpeningError::NoMemory),
     }
 }
 
-/// The set of that name in the bytes of a document.
-fn read_document(alloc: Global, bytes: &[u8], isa: &str) -> Result<Opened, Unread>
-    ensures { Read isa.now (json_in bytes.now) result }
+/// The set of that name in the bytes of a document, with these features.
+fn read_document(
+    alloc: Global,
+    bytes: &[u8],
+    isa: &str,
+    features: Features,
+) -> Result<Opened, Unread>
+    ensures { (on : List (List ℕ)) → AreFeatures on features → Read isa.now on (json_in bytes.now) result }
 {
     let value = read_json(alloc, bytes)?;
-    read_value(alloc, &value, isa)
+    read_value(alloc, &value, isa, features)
 }
 
 /// The JSON value that bytes are read as.
@@ -69,17 +81,39 @@ fn read_json(alloc: Global, bytes: &[u8]) -> Result<Value, Unread>
     }
 }
 
-/// The set of that name in a JSON value.
-fn read_value(alloc: Global, value: &Value, isa: &str) -> Result<Opened, Unread>
-    ensures { Read isa.now (Some (view value.now)) result }
+/// The set of that name in a JSON value, with these features.
+fn read_value(
+    alloc: Global,
+    value: &Value,
+    isa: &str,
+    features: Features,
+) -> Result<Opened, Unread>
+    ensures { (on : List (List ℕ)) → AreFeatures on features → Read isa.now on (Some (view value.now)) result }
 {
-    let mut names = Names::new(alloc);
+    let Features { mut names, config } = features;
     match read_instructions(alloc, value, isa, &mut names) {
-        Ok(arena) => match Tree::new(alloc, arena, &names) {
-            Ok(tree) => Ok(Opened::new(names, tree)),
-            Err(_) => Err(Unread::NoMemory),
-        },
+        Ok(arena) => search_through(alloc, arena, names, config),
         Err(ReadFault::Schema(fault)) => Err(Unread::Refused(DocFault::Schema(fault))),
         Err(ReadFault::NoMemory) => Err(Unread::NoMemory),
     }
+}
+
+/// The arena of a set, made ready for the search for its leaves.
+fn search_through(
+    alloc: Global,
+    arena: Arena,
+    names: Names,
+    config: Config,
+) -> Result<Opened, Unread>
+    requires nodes { AreHeld names arena.nodes }
+    requires parameters { All (λ name. name < length names) config.names }
+    ensures { IsMachineOf names arena.nodes config result }
+{
+    let Ok(tree) = Tree::new(alloc, arena, &names) else {
+        return Err(Unread::NoMemory);
+    };
+    let Ok(decider) = Decider::new(alloc, &tree) else {
+        return Err(Unread::NoMemory);
+    };
+    Ok(Opened::new(names, tree, decider, config))
 }

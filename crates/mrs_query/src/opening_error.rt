@@ -4,6 +4,7 @@ ghost use Rattle.mrs_query.specs.End.{end_of};
 ghost use Rattle.mrs_query.specs.Opened.{ending};
 
 use crate::{DocFault, Status, Which};
+use insn_tree::NoMemory;
 
 /// Why what a command names is not opened.
 #[derive(Drop, Debug)]
@@ -29,5 +30,16 @@ impl OpeningError {
             OpeningError::Refused { which, fault } => Status::Document { which, fault },
             OpeningError::NoMemory => Status::NoMemory,
         }
+    }
+}
+
+impl From<NoMemory> for OpeningError {
+    ghost use Rattle.std.specs.Prelude.{◌≡◌};
+    ghost use Rattle.mrs_query.specs.declared.opening_error.OpeningError.TheVariants.{NoMemory};
+
+    ghost from_gives = { λ _ error. error ≡ NoMemory };
+
+    fn from(_fault: NoMemory) -> OpeningError {
+        OpeningError::NoMemory
     }
 }

@@ -10,6 +10,8 @@ pub mod NodeLaws
 pub mod StepRules
 pub mod ExprsLaws
 pub mod ConditionLaws
+pub mod OnceLaws
+pub mod ParamLaws
 pub mod SetLaws
 pub mod ShapedLaws
 pub mod ReleaseLaws

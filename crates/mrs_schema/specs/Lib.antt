@@ -4,5 +4,6 @@ pub mod Parts
 pub mod Drafted
 pub mod Codes
 pub mod ExprsRead
+pub mod FeatureViews
 pub mod Nodes
 pub mod Release

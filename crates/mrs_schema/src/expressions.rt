@@ -36,7 +36,7 @@ pub(crate) fn read_expression(here: &Here<'_>, draft: &mut Draft) -> Result<Expr
         Shape::Not => read_not(here, draft),
         Shape::Binary(op) => read_binary(here, op, draft),
         Shape::Call(name) => read_call(here, name, draft),
-        Shape::Set => read_set(here, draft),
+        Shape::Set => read_set_expression(here, draft),
         Shape::Join => read_join(here, draft),
         Shape::Index(argument) => read_index(here, argument, draft),
         Shape::Slice(argument) => read_slice(here, argument, draft),
@@ -100,7 +100,7 @@ fn read_call(here: &Here<'_>, name: &str, draft: &mut Draft) -> Result<ExprId, R
 /// Of `values`.
 #[cycle(expressions)]
 #[tactic(auto, using(crate::proofs::StepRules::steps))]
-fn read_set(here: &Here<'_>, draft: &mut Draft) -> Result<ExprId, ReadFault>
+fn read_set_expression(here: &Here<'_>, draft: &mut Draft) -> Result<ExprId, ReadFault>
     ensures walk { Puts result (formed_at ASet (spot_of here.now)) (counts draft.old) (counts draft.new)
         (λ e id. IsRead draft.old draft.new e id.0) }
     ensures nodes { draft.new.nodes ≡ draft.old.nodes }

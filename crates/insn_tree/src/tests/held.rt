@@ -8,7 +8,7 @@ ghost use Rattle.mrs_arena.specs.Placed.{IsHeldItem, IsHeldNode, AreHeld};
 use mrs_arena::{Arena, Item, NodeId};
 use mrs_names::Names;
 
-/// Whether the names of all nodes and their items are held.
+/// Whether the names of all nodes and their items are held, and no node has expressions.
 pub(super) fn are_held(arena: &Arena, names: &Names) -> bool
     ensures { IsTrue result → AreHeld names.now arena.now.nodes }
 {
@@ -20,11 +20,15 @@ pub(super) fn are_held(arena: &Arena, names: &Names) -> bool
     true
 }
 
+/// Whether a node has no expressions, and its name and those of its items are held.
 fn is_node_held(arena: &Arena, n: NodeId, names: &Names) -> bool
     requires { n.0 < length arena.now.nodes }
     ensures { IsTrue result → (node : FlatNode) → slice_get arena.now.nodes n.0 ≡ Some node → IsHeldNode names.now node }
 {
     let node = arena.node(n);
+    if node.condition().is_some() || node.preferred().is_some() {
+        return false;
+    }
     (node.name().0 as usize) < names.len() && are_items_held(node.items(), names)
 }
 

@@ -10,7 +10,6 @@ ghost use Rattle.mrs_query.specs.Pieces.{PieceEnds, PieceCause, Finished, Probed
 use crate::lister::{push_lines, push_rest_line};
 use crate::opened::Opened;
 use crate::{Status, Which};
-use insn_tree::LeafId;
 use mrs_io::{Sink, Source, fill, write_whole};
 use std::alloc::{AllocError, Global};
 
@@ -40,7 +39,7 @@ impl From<AllocError> for Stop {
 }
 
 /// Reads one piece of the stream, which stands at an offset, and writes the lines of its whole words. Answers how
-/// many bytes it read: fewer than the buffer holds only at the end. `lines` and `leaves` are room that is used anew.
+/// many bytes it read: fewer than the buffer holds only at the end. `lines` is room that is used anew.
 fn list_piece<S: Source, K: Sink>(
     opened: &Opened,
     offset: u64,
@@ -48,7 +47,6 @@ fn list_piece<S: Source, K: Sink>(
     out: &mut K,
     buffer: &mut [u8],
     lines: &mut Vec<u8>,
-    leaves: &mut Vec<LeafId>,
 ) -> Result<usize, Stop>
     requires { offset + length buffer.old < 2 ^ 64 }
     ensures piece { PieceEnds opened.now offset (length buffer.new) (S.reading input.old) (S.reading input.new)
@@ -59,7 +57,7 @@ fn list_piece<S: Source, K: Sink>(
         return Err(Stop::Input);
     };
     lines.clear();
-    push_lines(lines, opened, leaves, offset, &buffer[..n])?;
+    push_lines(lines, opened, offset, &buffer[..n])?;
     if write_whole(out, lines).is_err() {
         return Err(Stop::Output);
     }
@@ -140,10 +138,9 @@ fn list_pieces<S: Source, K: Sink>(
         (Reads (list_work opened.now)) (end_of result) }
 {
     let mut lines = Vec::new(alloc);
-    let mut leaves = Vec::new(alloc);
     for k in 0..PIECES {
         let offset = k * PIECE as u64;
-        let n = match list_piece(opened, offset, input, out, buffer, &mut lines, &mut leaves) {
+        let n = match list_piece(opened, offset, input, out, buffer, &mut lines) {
             Ok(n) => n,
             Err(stop) => return stop_status(stop),
         };

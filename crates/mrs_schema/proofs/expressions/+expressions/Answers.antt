@@ -23,7 +23,7 @@ pub read_expression-returns-in-Call-clause-walk : goal.read_expression-returns-i
 read_expression-returns-in-Call-clause-walk t c = formed_returns c.read_call.result (spot_of c.args.here.now) (ACall c.in-Call.name.now) _ _ _ c.in_ok-object.ensures c.in-Call.ensures.shape c.read_call.ensures.walk
 
 pub read_expression-returns-in-Set-clause-walk : goal.read_expression-returns-in-Set-clause-walk
-read_expression-returns-in-Set-clause-walk t c = formed_returns c.read_set.result (spot_of c.args.here.now) ASet _ _ _ c.in_ok-object.ensures c.in-Set.ensures.shape c.read_set.ensures.walk
+read_expression-returns-in-Set-clause-walk t c = formed_returns c.read_set_expression.result (spot_of c.args.here.now) ASet _ _ _ c.in_ok-object.ensures c.in-Set.ensures.shape c.read_set_expression.ensures.walk
 
 pub read_expression-returns-in-Join-clause-walk : goal.read_expression-returns-in-Join-clause-walk
 read_expression-returns-in-Join-clause-walk t c = formed_returns c.read_join.result (spot_of c.args.here.now) AJoin _ _ _ c.in_ok-object.ensures c.in-Join.ensures.shape c.read_join.ensures.walk
@@ -50,8 +50,8 @@ read_call-returns-clause-walk t c =
     call_returns c.expr.result (λ id. id.0) (spot_of c.args.here.now) c.args.name.now c.args.draft.now c.read_list.new.draft c.read_function.new.draft c.expr.new.self c.in_ok-arguments.arguments f.value
     (function_by (text_of c.read_function.new.draft.names) c.in_ok-function.function) c.in_ok-arguments.ensures.walk f.walked f.stands.0 c.in_ok-function.ensures.exprs c.in_ok-function.ensures.parts c.expr.ensures.parts c.expr.ensures.steps
 
-pub read_set-returns-clause-walk : goal.read_set-returns-clause-walk
-read_set-returns-clause-walk t c = set_returns c.expr.result (λ id. id.0) (spot_of c.args.here.now) c.args.draft.now c.read_list.new.draft c.expr.new.self c.in_ok-members.members c.in_ok-members.ensures.walk c.expr.ensures.parts c.expr.ensures.steps
+pub read_set_expression-returns-clause-walk : goal.read_set_expression-returns-clause-walk
+read_set_expression-returns-clause-walk t c = set_returns c.expr.result (λ id. id.0) (spot_of c.args.here.now) c.args.draft.now c.read_list.new.draft c.expr.new.self c.in_ok-members.members c.in_ok-members.ensures.walk c.expr.ensures.parts c.expr.ensures.steps
 
 pub read_join-returns-clause-walk : goal.read_join-returns-clause-walk
 read_join-returns-clause-walk t c = join_returns c.expr.result (λ id. id.0) (spot_of c.args.here.now) c.args.draft.now c.read_list.new.draft c.expr.new.self c.in_ok-parts.parts c.in_ok-parts.ensures.walk c.expr.ensures.parts c.expr.ensures.steps

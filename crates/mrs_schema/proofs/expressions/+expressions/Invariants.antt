@@ -17,8 +17,8 @@ decreases-read_binary l = 3 * depth (view l.here.now.value.now) + 1
 abbrev pub decreases-read_call : goal.decreases-read_call
 decreases-read_call l = 3 * depth (view l.here.now.value.now) + 1
 
-abbrev pub decreases-read_set : goal.decreases-read_set
-decreases-read_set l = 3 * depth (view l.here.now.value.now) + 1
+abbrev pub decreases-read_set_expression : goal.decreases-read_set_expression
+decreases-read_set_expression l = 3 * depth (view l.here.now.value.now) + 1
 
 abbrev pub decreases-read_join : goal.decreases-read_join
 decreases-read_join l = 3 * depth (view l.here.now.value.now) + 1

@@ -3,7 +3,7 @@ use Rattle.std.proofs.lemmas.List.{take_more, take_all}
 use Rattle.std.proofs.lemmas.List.Elements.{All-push}
 use Rattle.mrs_arena.specs.Flat.{FlatNode}
 use Rattle.mrs_arena.specs.Placed.{IsHeldNode}
-use Rattle.insn_tree.proofs.ListLaws.{slice_get-within}
+use Rattle.mrs_arena.proofs.NameLaws.{slice_get-within}
 use Rattle.insn_tree.proofs.tests.held.are_held.Goals as goal
 
 -- one more node is held
