@@ -8,6 +8,8 @@ mod fields;
 mod names;
 mod placing;
 mod shown_fields;
+#[cfg(test)]
+mod tests;
 mod values;
 
 pub use encoding::{encode, rest_of, shown};
