@@ -1,4 +1,4 @@
--- Names that are held, and answers by their texts.
+-- Pairs and answers by the texts of names and the numbers of nodes.
 use Rattle.std.specs.Prelude.{ℕ, List, reverse, slice_index_or, Result, Ok, Err}
 use Rattle.spec_encoding.specs.Refusal.{Refusal, UnknownField, DoubledField, MissingField, TooWide, Clash, FixedBit, RestBit, Excluded}
 use Rattle.mrs_names.specs.declared.name_id.NameId.{NameId}
