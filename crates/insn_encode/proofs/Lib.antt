@@ -1,1 +1,4 @@
 pub mod GivenLaws
+pub mod ExclusionLaws
+pub mod EncodingLaws
+pub mod ShownLaws

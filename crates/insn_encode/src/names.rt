@@ -5,7 +5,7 @@ ghost use Rattle.std.specs.List.{position_from};
 ghost use Rattle.spec_encoding.specs.Named.{is_unknown, is_paired, doubled_from, missing};
 ghost use Rattle.insn_encode.specs.Views.{shown_of, pair_of};
 
-use crate::shown::{is_shown, shown_range};
+use crate::fields::{is_shown, shown_range};
 use insn_tree::FieldRange;
 use mrs_names::NameId;
 use word_layout::WordLayout;

@@ -7,7 +7,7 @@ ghost use Rattle.spec_encoding.specs.Named.{parts};
 ghost use Rattle.word_layout.specs.Masks.{has_bit, IsMask, GivesParts};
 ghost use Rattle.insn_encode.specs.Views.{shown_of, pair_of, part_for};
 
-use crate::shown::shown_range;
+use crate::fields::shown_range;
 use insn_tree::FieldRange;
 use mrs_names::NameId;
 use word_layout::{Given, WordLayout, is_too_wide};

@@ -21,7 +21,7 @@ fit_items : (names : List (List ℕ)) (items : List FlatItem) → All IsItem ite
 fit_items names items formed = All-map IsWithinWord (item_of names) items (λ k d h. (formed k d h).fits)
 
 -- the items along a path lie within the word
-items_within : (names : List (List ℕ)) (nodes : List FlatNode) → AreNodes nodes → (n : ℕ) → All IsWithinWord (path_items (path_to names nodes n))
+pub items_within : (names : List (List ℕ)) (nodes : List FlatNode) → AreNodes nodes → (n : ℕ) → All IsWithinWord (path_items (path_to names nodes n))
 items_within names nodes formed n =
     subst (λ its. All IsWithinWord its) (sym (path_items_to names nodes n)) (fit_items names (items_to nodes n) (all_to IsItem nodes (formed_items nodes formed) n))
 

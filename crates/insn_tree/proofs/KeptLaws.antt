@@ -8,8 +8,8 @@ use Rattle.std.proofs.lemmas.List.Elements.{All-map}
 use Rattle.std.proofs.lemmas.Option.{get_or_from_slice_get, slice_get_within, slice_get_past}
 use Rattle.bit_pattern.specs.declared.pattern.Pattern.{Pattern}
 use Rattle.bit_pattern.specs.Views.{digits_of}
-use Rattle.spec_instructions.specs.Fields.{merged, fields}
-use Rattle.spec_instructions.specs.Paths.{label, labelled_leaf, has_label}
+use Rattle.spec_instructions.specs.Fields.{merged, fields, IsWithinWord}
+use Rattle.spec_instructions.specs.Paths.{label, labelled_leaf, has_label, path_items}
 use Rattle.spec_decode.specs.Verdict.{path_holds}
 use Rattle.spec_encoding.specs.Layout.{numbers}
 use Rattle.spec_encoding.specs.PathLayout.{layout}
@@ -40,9 +40,9 @@ use Rattle.insn_tree.specs.Kept.{AreLeaves, AreAliases}
 use Rattle.insn_tree.proofs.ListLaws.{image-at, map-twice, All-unmap}
 use Rattle.insn_tree.proofs.RangeLaws.{rank, find_below}
 use Rattle.insn_tree.proofs.WordLaws.{merged-at}
-use Rattle.insn_tree.proofs.HoldLaws.{holds_of, merged-holds}
+use Rattle.insn_tree.proofs.HoldLaws.{holds_of, merged-holds, items_within}
 use Rattle.insn_tree.proofs.VisibleLaws.{text_field, fields-at}
-use Rattle.insn_tree.proofs.LayoutLaws.{ranges-fit, layout-numbers}
+use Rattle.insn_tree.proofs.LayoutLaws.{ranges-fit, names-held, layout-numbers}
 use Rattle.insn_tree.proofs.LeafLaws.{kept_within, kept_few, held_name}
 use Rattle.insn_tree.proofs.LabelLaws.{label-leaf, leaf_name-held, labelled-leaf, number-leaf}
 
@@ -87,6 +87,9 @@ module _ (nodes : List FlatNode) (table : LeafTable) (kept : AreLeaves nodes tab
   pub fields_fit : (fs : List FieldRange) → slice_get table.fields l ≡ Some (map flat_field fs) → All (λ f. f.range.start + f.range.width ≤ 32) fs
   fields_fit fs at = ranges-fit nodes here fs (fields_here fs at) kept.formed
 
+  pub fields_held : (fs : List FieldRange) → slice_get table.fields l ≡ Some (map flat_field fs) → (names : List (List ℕ)) → AreHeld names nodes → All (λ f. f.name.0 < length names) fs
+  fields_held fs at names held = names-held nodes here fs (fields_here fs at) names held
+
   pub fields_kept : (fs : List FieldRange) → slice_get table.fields l ≡ Some (map flat_field fs) → (names : List (List ℕ)) → AreNames names → AreHeld names nodes → map (field_of names) fs ≡ fields (get_or (paths_of names nodes) l [])
   fields_kept fs at names are held =
       sym (map-twice flat_field (text_field names) fs)
@@ -95,6 +98,9 @@ module _ (nodes : List FlatNode) (table : LeafTable) (kept : AreLeaves nodes tab
       ∙ ap fields (sym (path-leaf names))
 
   -- ---- the bits of words
+
+  pub items_fit : (names : List (List ℕ)) → All IsWithinWord (path_items (get_or (paths_of names nodes) l []))
+  items_fit names = subst (λ path. All IsWithinWord (path_items path)) (sym (path-leaf names)) (items_within names nodes kept.formed here)
 
   pub layout_kept : (b : WordLayout) → b ≡ get_or table.layouts.items l b → (names : List (List ℕ)) → AreNames names → AreHeld names nodes → numbers_of b ≡ numbers (layout (get_or (paths_of names nodes) l []))
   layout_kept b at names are held =

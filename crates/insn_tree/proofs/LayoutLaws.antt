@@ -2,7 +2,7 @@
 use Rattle.std.specs.Prelude.{is_none, unwrap_or, nat_lt}
 use Rattle.std.specs.Option.{option_or}
 use Rattle.std.specs.List.{list_any}
-use Rattle.std.proofs.Common.{◌≡◌, ◌∙◌, sym, ap, refl, subst, ℕ, ◌+◌, ◌<◌, ◌≤◌, Bool, true, false, not, ◌&&◌, ◌||◌, cond, List, [], ◌∷◌, ◌++◌, length, map, reverse, Option, Some, None, All, arith}
+use Rattle.std.proofs.Common.{◌≡◌, ◌∙◌, sym, ap, refl, subst, ℕ, ◌+◌, ◌<◌, ◌≤◌, Bool, true, false, not, ◌&&◌, ◌||◌, cond, List, [], ◌∷◌, ◌++◌, length, map, reverse, Option, Some, None, IfSome, All, arith}
 use Rattle.std.proofs.lemmas.Bool.{lt-ltb}
 use Rattle.std.proofs.lemmas.List.{reverse-append}
 use Rattle.std.proofs.lemmas.List.Elements.{All-nil, All-cons, All-head, All-tail, All-append}
@@ -18,7 +18,7 @@ use Rattle.spec_encoding.proofs.SameLayouts.{SameLayout, numbers-same}
 use Rattle.mrs_names.specs.Texts.{AreNames}
 use Rattle.mrs_arena.specs.Flat.{FlatItem, FlatNode, with_text}
 use Rattle.mrs_arena.specs.Formed.{IsItem, AreNodes}
-use Rattle.mrs_arena.specs.Placed.{item_of, path_to, AreHeld}
+use Rattle.mrs_arena.specs.Placed.{item_of, path_to, IsHeldItem, AreHeld}
 use Rattle.word_layout.specs.declared.fixed_bits.FixedBits.{FixedBits}
 use Rattle.word_layout.specs.declared.layout.WordLayout.{WordLayout}
 use Rattle.word_layout.specs.Masks.{has_bit, IsMask, fixed_by}
@@ -31,7 +31,7 @@ use Rattle.insn_tree.specs.Upward.{onto}
 use Rattle.insn_tree.specs.Visible.{FlatField, with_named, with_field, has_field_name, field_named, fields_at}
 use Rattle.insn_tree.specs.Layouts.{fix_first, should_last, fixed_at, should_be_at, some_covers, layout_at}
 use Rattle.ast_eval.specs.Fields.{items_to}
-use Rattle.ast_eval.proofs.PathLaws.{path_items_to, all_to}
+use Rattle.ast_eval.proofs.PathLaws.{path_items_to, all_to, held_to}
 use Rattle.insn_tree.proofs.UpwardLaws.{gathered-onto, formed_items}
 use Rattle.insn_tree.proofs.VisibleLaws.{text_field, fields-at}
 
@@ -86,16 +86,36 @@ onto_fit : (items : List FlatItem) → All IsItem items → All FitsWord (onto w
 onto_fit [] all = All-nil FitsWord
 onto_fit (it ∷ items) all = named_fit it it.name (onto with_field items []) (All-head IsItem it items all).fits (onto_fit items (All-tail IsItem it items all))
 
-turned_fit : (fs : List FlatField) → All FitsWord fs → All FitsWord (reverse fs)
-turned_fit [] all = all
-turned_fit (f ∷ fs) all =
-    subst (All FitsWord) (sym (reverse-append (f ∷ []) fs))
-    (All-append FitsWord (reverse fs) (f ∷ []) (turned_fit fs (All-tail FitsWord f fs all)) (All-cons FitsWord f [] (All-head FitsWord f fs all) (All-nil FitsWord)))
+turned : (P : FlatField → Type 0) (fs : List FlatField) → All P fs → All P (reverse fs)
+turned P [] all = all
+turned P (f ∷ fs) all =
+    subst (All P) (sym (reverse-append (f ∷ []) fs)) (All-append P (reverse fs) (f ∷ []) (turned P fs (All-tail P f fs all)) (All-cons P f [] (All-head P f fs all) (All-nil P)))
 
 pub fields-fit : (nodes : List FlatNode) → AreNodes nodes → (n : ℕ) → All FitsWord (fields_at nodes n)
 fields-fit nodes formed n =
-    turned_fit _
+    turned FitsWord _
     (subst (All FitsWord) (sym (gathered-onto with_field nodes n [])) (onto_fit (items_to nodes n) (all_to IsItem nodes (formed_items nodes formed) n)))
+
+-- and each has a name that is held
+abbrev pub HasHeldName : List (List ℕ) → FlatField → Type 0
+HasHeldName names f = f.name < length names
+
+named_held : (names : List (List ℕ)) (it : FlatItem) (o : Option ℕ) (deeper : List FlatField) → IfSome o (λ id. id < length names) → All (HasHeldName names) deeper → All (HasHeldName names) (with_named it o deeper)
+named_held names it None deeper held all = all
+named_held names it (Some name) deeper held all = go (list_any (has_field_name name) deeper)
+  where
+    go : (b : Bool) → All (HasHeldName names) (cond b deeper (deeper ++ field_named name it ∷ []))
+    go true = all
+    go false = All-append (HasHeldName names) deeper (field_named name it ∷ []) all (All-cons (HasHeldName names) (field_named name it) [] held (All-nil (HasHeldName names)))
+
+onto_held : (names : List (List ℕ)) (items : List FlatItem) → All (IsHeldItem names) items → All (HasHeldName names) (onto with_field items [])
+onto_held names [] all = All-nil (HasHeldName names)
+onto_held names (it ∷ items) all = named_held names it it.name (onto with_field items []) (All-head (IsHeldItem names) it items all) (onto_held names items (All-tail (IsHeldItem names) it items all))
+
+fields-held : (names : List (List ℕ)) (nodes : List FlatNode) → AreHeld names nodes → (n : ℕ) → All (HasHeldName names) (fields_at nodes n)
+fields-held names nodes held n =
+    turned (HasHeldName names) _
+    (subst (All (HasHeldName names)) (sym (gathered-onto with_field nodes n [])) (onto_held names (items_to nodes n) (held_to names nodes held n)))
 
 covers-text : (names : List (List ℕ)) (i : ℕ) (fs : List FlatField) → list_any (λ f. covers f.start f.width i) (map (text_field names) fs) ≡ some_covers i fs
 covers-text names i [] = refl
@@ -124,6 +144,9 @@ module _ (names : List (List ℕ)) (are : AreNames names) (nodes : List FlatNode
 module _ (nodes : List FlatNode) (n : ℕ) (fs : List FieldRange) (visible : map flat_field fs ≡ fields_at nodes n) where
   pub ranges-fit : AreNodes nodes → All (λ f. f.range.start + f.range.width ≤ 32) fs
   ranges-fit formed = All-unmap FitsWord flat_field fs (subst (All FitsWord) (sym visible) (fields-fit nodes formed n))
+
+  pub names-held : (names : List (List ℕ)) → AreHeld names nodes → All (λ f. f.name.0 < length names) fs
+  names-held names held = All-unmap (HasHeldName names) flat_field fs (subst (All (HasHeldName names)) (sym visible) (fields-held names nodes held n))
 
   module _ (b : WordLayout) (fixed should : FixedBits) (bits : ℕ)
       (fixed_is : (i : ℕ) → fixed_in fixed i ≡ fixed_at nodes n i) (bits_are : IsMask bits (λ i. some_covers i (map flat_field fs))) (should_is : (i : ℕ) → fixed_in should i ≡ should_be_at nodes n i)

@@ -50,8 +50,8 @@ impl Tree {
     ghost use Rattle.bit_pattern.specs.Views.{digits_of};
     ghost use Rattle.mrs_names.specs.Texts.{AreNames};
     ghost use Rattle.mrs_arena.specs.Placed.{leaves_of, aliases_of, AreHeld};
-    ghost use Rattle.spec_instructions.specs.Paths.{label, labelled_leaf};
-    ghost use Rattle.spec_instructions.specs.Fields.{merged, fields};
+    ghost use Rattle.spec_instructions.specs.Paths.{label, labelled_leaf, path_items};
+    ghost use Rattle.spec_instructions.specs.Fields.{merged, fields, IsWithinWord};
     ghost use Rattle.spec_encoding.specs.Layout.{numbers};
     ghost use Rattle.spec_encoding.specs.PathLayout.{layout, free_unnamed, default_bits};
     ghost use Rattle.word_layout.specs.Views.{numbers_of};
@@ -173,6 +173,7 @@ impl Tree {
         ensures visible { (names : List (List ℕ)) → AreNames names → AreHeld names self.now.nodes
             → map (field_of names) result.now ≡ fields (path_at names self.now l.0) }
         ensures within { All (λ f. f.range.start + f.range.width ≤ 32) result.now }
+        ensures held { (names : List (List ℕ)) → AreHeld names self.now.nodes → All (λ f. f.name.0 < length names) result.now }
     {
         self.leaves.fields.at(l.0 as usize)
     }
@@ -211,8 +212,9 @@ impl Tree {
     /// free and unnamed, and the defaults of these.
     pub fn layout(&self, l: LeafId) -> WordLayout
         requires { l.0 < length (leaves_of self.now.nodes) }
-        ensures { (names : List (List ℕ)) → AreNames names → AreHeld names self.now.nodes
+        ensures numbers { (names : List (List ℕ)) → AreNames names → AreHeld names self.now.nodes
             → numbers_of result ≡ numbers (layout (path_at names self.now l.0)) }
+        ensures within { (names : List (List ℕ)) → All IsWithinWord (path_items (path_at names self.now l.0)) }
     {
         self.leaves.layouts[l.0 as usize]
     }

@@ -7,14 +7,15 @@ use Rattle.spec_expressions.specs.Scope.{Configuration}
 use Rattle.spec_instructions.specs.Tree.{Own}
 use Rattle.spec_instructions.specs.Fields.{fields}
 use Rattle.spec_encoding.specs.Layout.{Layout}
+use Rattle.spec_encoding.specs.Refusal.{with_node}
 use Rattle.spec_encoding.specs.Named.{FieldOf, encoded}
 use Rattle.spec_encoding.specs.PathLayout.{fixed_at, is_open, shown, excluded_at, layout}
 use Rattle.spec_encoding.specs.Encoding.{named_field, encoding}
 use Rattle.spec_encoding.proofs.SameLayouts.{SameLayout, encoded-same}
-use Rattle.spec_encoding.proofs.Renamed.{told, encoded-under, with_node, encoded-nodes}
+use Rattle.spec_encoding.proofs.Renamed.{told, encoded-under, encoded-nodes}
 use Rattle.spec_encoding.proofs.PathLaws.{shown-named, field_shown}
 
-any-range-same : (p q : ℕ → Bool) (a n : ℕ) → ((k : ℕ) → a ≤ k → k < a + n → p k ≡ q k) → list_any p (range_with_len a n) ≡ list_any q (range_with_len a n)
+pub any-range-same : (p q : ℕ → Bool) (a n : ℕ) → ((k : ℕ) → a ≤ k → k < a + n → p k ≡ q k) → list_any p (range_with_len a n) ≡ list_any q (range_with_len a n)
 any-range-same p q a zero same = refl
 any-range-same p q a (suc n) same =
     ap (λ b. b || list_any p (range_with_len (a + 1) n)) (same a (omega arith) (omega arith))

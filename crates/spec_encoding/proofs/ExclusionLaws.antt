@@ -1,9 +1,11 @@
 -- The node that is told is the first that excludes a word, and there is none exactly where the verdict is not No.
-use Rattle.std.proofs.Common.{◌≡◌, ◌≢◌, ◌∙◌, sym, ap, refl, subst, ℕ, zero, suc, ◌+◌, ◌<◌, Bool, true, false, not, cond, List, [], ◌∷◌, ◌++◌, length, take, Some, None, arith, ◌⊎◌, inl, inr, append_assoc, append-nil, length-append}
+use Rattle.std.proofs.Common.{◌≡◌, ◌≢◌, ◌∙◌, sym, ap, refl, subst, ℕ, zero, suc, ◌+◌, ◌<◌, Bool, true, false, not, cond, List, [], ◌∷◌, ◌++◌, length, take, Option, Some, None, arith, ◌⊎◌, inl, inr, append_assoc, append-nil, length-append}
 use Rattle.std.specs.Prelude.{slice_get, Any}
+use Rattle.std.specs.Option.{option_or}
 use Rattle.std.specs.List.{list_all}
 use Rattle.std.proofs.lemmas.Bool.{and_parts, and_from, or_cases, or_parts, or_from, or_left, or_right, false≢true, false_from_ne_true, not-true, not-false, not_from_true, not_from_false}
 use Rattle.std.proofs.lemmas.List.Folds.{list_all-append}
+use Rattle.std.proofs.lemmas.Option.{slice_get_within}
 use Rattle.spec_bits.specs.Item.{item_holds}
 use Rattle.spec_expressions.specs.Truth.{Truth, Yes, No, Open, conjunction}
 use Rattle.spec_expressions.specs.Scope.{Configuration}
@@ -173,3 +175,22 @@ exclusion_is_exact path g w = record {
     from k h =
         let same : length {A = Own} [] + k ≡ k = omega arith in
         first-some [] path g w k (record { own = h.excludes.own; at = h.excludes.at; why = h.excludes.why }) (λ j lt a. h.first j lt (record { own = a.own; at = a.at; why = a.why })) ∙ ap Some same
+
+-- ---- the last node apart
+
+or_under : (b : Bool) (k : ℕ) (x y : Option ℕ) → cond b (Some k) (option_or x y) ≡ option_or (cond b (Some k) x) y
+or_under true k x y = refl
+or_under false k x y = refl
+
+-- the nodes above the last exclude before it does
+pub excluded-last : (above path : List Own) (own : Own) (g : Configuration) (w : ℕ)
+    → excluded_from above (path ++ own ∷ []) g w ≡ option_or (excluded_from above path g w) (cond (node_excludes (above ++ path) own g w) (Some (length (above ++ path))) None)
+excluded-last above [] own g w = ap (λ l. cond (node_excludes l own g w) (Some (length l)) None) (sym (append-nil above))
+excluded-last above (first ∷ path) own g w =
+    ap (λ o. cond (node_excludes above first g w) (Some (length above)) o) (excluded-last (above ++ first ∷ []) path own g w)
+    ∙ ap (λ l. cond (node_excludes above first g w) (Some (length above)) (option_or (excluded_from (above ++ first ∷ []) path g w) (cond (node_excludes l own g w) (Some (length l)) None))) (append_assoc above (first ∷ []) path)
+    ∙ or_under (node_excludes above first g w) (length above) (excluded_from (above ++ first ∷ []) path g w) (cond (node_excludes (above ++ first ∷ path) own g w) (Some (length (above ++ first ∷ path))) None)
+
+-- the node that is told is one of the path
+pub excluded-within : (path : List Own) (g : Configuration) (w k : ℕ) → excluded_at path g w ≡ Some k → k < length path
+excluded-within path g w k h = let first = (exclusion_is_exact path g w).some k in slice_get_within path k (first.0 h).excludes.own (first.0 h).excludes.at

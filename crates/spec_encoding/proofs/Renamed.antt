@@ -5,7 +5,7 @@ use Rattle.std.specs.List.{position_from}
 use Rattle.std.proofs.lemmas.List.Elements.{All-head, All-tail, All-append, All-cons, All-nil}
 use Rattle.spec_encoding.specs.Parts.{Part, is_too_wide, is_clash, highest}
 use Rattle.spec_encoding.specs.Layout.{Layout, is_misfixed, is_stray}
-use Rattle.spec_encoding.specs.Refusal.{Refusal, UnknownField, DoubledField, MissingField, TooWide, Clash, FixedBit, RestBit, Excluded, unless}
+use Rattle.spec_encoding.specs.Refusal.{Refusal, UnknownField, DoubledField, MissingField, TooWide, Clash, FixedBit, RestBit, Excluded, unless, renumbered, with_node}
 use Rattle.spec_encoding.specs.Placed.{made, placed}
 use Rattle.spec_encoding.specs.Named.{FieldOf, field_for, is_unknown, is_paired, doubled_from, missing, part_from, parts, encoded}
 
@@ -130,21 +130,6 @@ module _ {N M : Type 0} (same : N → N → Bool) (other : M → M → Bool) (h 
 
 -- ---- nodes under other numbers
 
--- a refusal with its node under another number
-abbrev pub renumbered : {N : Type 0} → (ℕ → ℕ) → Refusal N → Refusal N
-renumbered e (UnknownField i) = UnknownField i
-renumbered e (DoubledField i) = DoubledField i
-renumbered e (MissingField name) = MissingField name
-renumbered e (TooWide i) = TooWide i
-renumbered e (Clash bit) = Clash bit
-renumbered e (FixedBit bit) = FixedBit bit
-renumbered e (RestBit bit) = RestBit bit
-renumbered e (Excluded node) = Excluded (e node)
-
-abbrev pub with_node : {N : Type 0} → (ℕ → ℕ) → Result ℕ (Refusal N) → Result ℕ (Refusal N)
-with_node e (Ok w) = Ok w
-with_node e (Err r) = Err (renumbered e r)
-
 node-unless : {N X : Type 0} (e : ℕ → ℕ) (o : Option X) (why : X → Refusal N) (next next' : Result ℕ (Refusal N)) → ((x : X) → why x ≡ renumbered e (why x)) → next' ≡ with_node e next → unless o why next' ≡ with_node e (unless o why next)
 node-unless e None why next next' same rest = rest
 node-unless e (Some x) why next next' same rest = ap Err (same x)
@@ -164,3 +149,25 @@ encoded-nodes same e l excluded shown pairs rest =
     (node-unless e (highest (is_misfixed l (parts same shown pairs)) 32) FixedBit _ _ (λ i. refl)
     (node-unless e (highest (is_stray l rest) 32) RestBit _ _ (λ i. refl)
     (node-excluded e (excluded (made l (parts same shown pairs) rest)) (made l (parts same shown pairs) rest))))))))
+
+-- ---- what excludes decides last
+
+-- the word that is placed, unless something excludes it
+abbrev pub unless_excluded : {N : Type 0} → (ℕ → Option ℕ) → Result ℕ (Refusal N) → Result ℕ (Refusal N)
+unless_excluded excluded (Ok w) = unless (excluded w) Excluded (Ok w)
+unless_excluded excluded (Err r) = Err r
+
+last-unless : {N X : Type 0} (excluded : ℕ → Option ℕ) (o : Option X) (why : X → Refusal N) (next next' : Result ℕ (Refusal N)) → next ≡ unless_excluded excluded next' → unless o why next ≡ unless_excluded excluded (unless o why next')
+last-unless excluded None why next next' same = same
+last-unless excluded (Some x) why next next' same = refl
+
+pub encoded-last : {N : Type 0} (same : N → N → Bool) (l : Layout) (excluded : ℕ → Option ℕ) (shown : List (FieldOf N)) (pairs : List (N × ℕ)) (rest : ℕ)
+    → encoded same l excluded shown pairs rest ≡ unless_excluded excluded (encoded same l (λ w. None) shown pairs rest)
+encoded-last same l excluded shown pairs rest =
+    last-unless excluded (position_from (is_unknown same shown) 0 pairs) UnknownField _ _
+    (last-unless excluded (doubled_from same [] 0 pairs) DoubledField _ _
+    (last-unless excluded (missing same shown pairs) MissingField _ _
+    (last-unless excluded (position_from is_too_wide 0 (parts same shown pairs)) TooWide _ _
+    (last-unless excluded (highest (is_clash (parts same shown pairs)) 32) Clash _ _
+    (last-unless excluded (highest (is_misfixed l (parts same shown pairs)) 32) FixedBit _ _
+    (last-unless excluded (highest (is_stray l rest) 32) RestBit _ _ refl))))))

@@ -4,7 +4,7 @@ use Rattle.std.specs.Prelude.{is_none, unwrap_or}
 use Rattle.std.specs.List.{position_from}
 use Rattle.spec_bits.specs.Bits.{bit_of}
 use Rattle.spec_encoding.specs.Parts.{Part, some_gives, is_too_wide, is_clash, highest, number_of_bits}
-use Rattle.spec_encoding.specs.Layout.{Layout, LayoutNumbers, numbers, flipped, rest_in, is_against, is_misfixed, is_stray}
+use Rattle.spec_encoding.specs.Layout.{Layout, numbers, flipped, rest_in, is_against, is_misfixed, is_stray}
 use Rattle.spec_encoding.specs.Refusal.{UnknownField, DoubledField, MissingField, TooWide, Clash, FixedBit, RestBit, Excluded, unless}
 use Rattle.spec_encoding.specs.Placed.{not_given, made_bit, made, placed}
 use Rattle.spec_encoding.specs.Named.{FieldOf, is_unknown, doubled_from, missing, encoded, parts}

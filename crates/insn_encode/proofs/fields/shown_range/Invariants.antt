@@ -2,7 +2,7 @@ use Rattle.std.proofs.Common.{◌≡◌, ◌==◌, drop}
 use Rattle.std.specs.Prelude.{option_map}
 use Rattle.spec_encoding.specs.Named.{field_for}
 use Rattle.insn_encode.specs.Views.{shown_of, range_of}
-use Rattle.insn_encode.proofs.shown.shown_range.Given as goal
+use Rattle.insn_encode.proofs.fields.shown_range.Given as goal
 
 -- the fields that are left have the name's field
 abbrev pub invariant-loop-field : goal.invariant-loop-field

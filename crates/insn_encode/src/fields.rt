@@ -24,7 +24,10 @@ pub(crate) fn shown_range(fields: &[FieldRange], layout: &WordLayout, name: Name
     ensures field { option_map ends result ≡ option_map range_of (field_for (λ a b. a == b) (shown_of layout.now fields.now) name.0) }
 {
     for field in fields {
-        if field.name == name && is_shown(layout, field) {
+        if field.name != name {
+            continue;
+        }
+        if is_shown(layout, field) {
             return Some(field.range);
         }
     }
