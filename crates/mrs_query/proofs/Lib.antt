@@ -6,3 +6,4 @@ pub mod DownLaws
 pub mod BitLaws
 pub mod HexSteps
 pub mod Verdicts
+pub mod OpeningLaws
