@@ -8,3 +8,4 @@ pub mod HexSteps
 pub mod Verdicts
 pub mod FeatureLaws
 pub mod LineLaws
+pub mod OpeningLaws

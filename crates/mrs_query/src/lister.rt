@@ -20,12 +20,7 @@ pub(crate) fn push_lines(
     let mut at = offset;
     let mut rest = piece;
     while let [a, b, c, d, after @ ..] = rest {
-        push_line(
-            out,
-            opened,
-            at,
-            u32::from_le_bytes([*a, *b, *c, *d]),
-        )?;
+        push_line(out, opened, at, u32::from_le_bytes([*a, *b, *c, *d]))?;
         at += 4;
         rest = after;
     }

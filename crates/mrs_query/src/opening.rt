@@ -39,6 +39,7 @@ pub(crate) fn open_release<V: Shelf>(
     release: Release<'_>,
     features: Features,
 ) -> Result<Opened, OpeningError>
+    requires { All (λ name. name < length features.names) features.config.names }
     ensures opens { (on : List (List ℕ)) → AreFeatures on features → Opens (machine_opened (release_of release.entry) on) (V.shelving shelf.old) (V.shelving shelf.new) result }
     ensures same { (V.shelving shelf.new).documents ≡ (V.shelving shelf.old).documents }
     ensures later { (V.shelving shelf.old).faults ≤ (V.shelving shelf.new).faults }
@@ -59,6 +60,7 @@ fn read_document(
     isa: &str,
     features: Features,
 ) -> Result<Opened, Unread>
+    requires { All (λ name. name < length features.names) features.config.names }
     ensures { (on : List (List ℕ)) → AreFeatures on features → Read isa.now on (json_in bytes.now) result }
 {
     let value = read_json(alloc, bytes)?;
@@ -88,6 +90,7 @@ fn read_value(
     isa: &str,
     features: Features,
 ) -> Result<Opened, Unread>
+    requires { All (λ name. name < length features.names) features.config.names }
     ensures { (on : List (List ℕ)) → AreFeatures on features → Read isa.now on (Some (view value.now)) result }
 {
     let Features { mut names, config } = features;

@@ -14,6 +14,6 @@ pub returns-in-Ok-clause-held : goal.returns-in-Ok-clause-held
 returns-in-Ok-clause-held c =
     let every = held c.in_ok-ids.ids.items _ c.in_ok-ids.ensures in
     λ k d within.
-      let e : get_or c.in-Ok.config.names k d ≡ get_or (map (λ (id : NameId). id.0) c.in_ok-ids.ids.items) k d = ap (λ ns. get_or ns k d) c.in-Ok.ensures.names in
-      let few = every k d (omega (arith, within, ap length c.in-Ok.ensures.names)) in
-      omega (arith, few, e, c.len.ensures.count)
+    let e : get_or c.in-Ok.config.names k d ≡ get_or (map (λ (id : NameId). id.0) c.in_ok-ids.ids.items) k d = ap (λ ns. get_or ns k d) c.in-Ok.ensures.names in
+    let few = every k d (omega (arith, within, ap length c.in-Ok.ensures.names)) in
+    omega (arith, few, e, c.len.ensures.count)

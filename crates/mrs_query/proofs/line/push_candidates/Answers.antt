@@ -1,4 +1,4 @@
-use Rattle.std.proofs.Common.{◌≡◌, ◌∙◌, sym, ap, subst, ◌++◌, ◌<◌, [], ◌∷◌, length, flat_map, map, ℕ, List, All, append_assoc, append-nil}
+use Rattle.std.proofs.Common.{◌≡◌, ◌∙◌, sym, ap, subst, ◌++◌, ◌<◌, length, flat_map, map, ℕ, List, All, append_assoc, append-nil}
 use Rattle.std.proofs.lemmas.List.Elements.{All-head, All-tail}
 use Rattle.ast_eval.specs.declared.kleene.Truth.{Truth}
 use Rattle.insn_tree.specs.declared.leaf_id.LeafId.{LeafId}
@@ -13,9 +13,10 @@ given c = ap (λ (is : List (LeafId × Truth)). map candidate_of is) c.into_iter
 
 pub loop-leaf-init : goal.loop-leaf-init
 loop-leaf-init c =
-    let paths = c.args.opened.now.paths in
-    (ap (λ (cs : List Candidate). c.args.out.now.items ++ flat_map (candidate paths) cs) (given c),
-     all_within paths c.args.opened.now.configuration c.args.word _ (given c))
+    let paths = c.args.opened.now.paths in (
+      ap (λ (cs : List Candidate). c.args.out.now.items ++ flat_map (candidate paths) cs) (given c),
+      all_within paths c.args.opened.now.configuration c.args.word _ (given c),
+    )
 
 pub push_candidate-requires : goal.push_candidate-requires
 push_candidate-requires c =
@@ -27,12 +28,13 @@ pub loop-leaf-preserved : goal.loop-leaf-preserved
 loop-leaf-preserved c =
     let paths = c.args.opened.now.paths in
     let all = subst (λ (is : List (LeafId × Truth)). All (λ (d : Candidate). d.leaf < length paths) (map candidate_of is)) (c.in-Some.ensures.steps) c.loop-leaf.invariant.1 in
-    let left = flat_map (candidate paths) (map candidate_of c.next.new.self) in
-    (ap (λ (t : List ℕ). t ++ left) c.in_ok-push_candidate.ensures
-     ∙ append_assoc c.loop-leaf.out.items _ left
-     ∙ ap (λ (is : List (LeafId × Truth)). c.loop-leaf.out.items ++ flat_map (candidate paths) (map candidate_of is)) (sym c.in-Some.ensures.steps)
-     ∙ c.loop-leaf.invariant.0,
-     All-tail (λ (d : Candidate). d.leaf < length paths) _ _ all)
+    let left = flat_map (candidate paths) (map candidate_of c.next.new.self) in (
+      ap (λ (t : List ℕ). t ++ left) c.in_ok-push_candidate.ensures
+          ∙ append_assoc c.loop-leaf.out.items _ left
+          ∙ ap (λ (is : List (LeafId × Truth)). c.loop-leaf.out.items ++ flat_map (candidate paths) (map candidate_of is)) (sym c.in-Some.ensures.steps)
+          ∙ c.loop-leaf.invariant.0,
+      All-tail (λ (d : Candidate). d.leaf < length paths) _ _ all,
+    )
 
 pub returns : goal.returns
 returns c =
