@@ -84,12 +84,7 @@ fn read_json(alloc: Global, bytes: &[u8]) -> Result<Value, Unread>
 }
 
 /// The set of that name in a JSON value, with these features.
-fn read_value(
-    alloc: Global,
-    value: &Value,
-    isa: &str,
-    features: Features,
-) -> Result<Opened, Unread>
+fn read_value(alloc: Global, value: &Value, isa: &str, features: Features) -> Result<Opened, Unread>
     requires { All (λ name. name < length features.names) features.config.names }
     ensures { (on : List (List ℕ)) → AreFeatures on features → Read isa.now on (Some (view value.now)) result }
 {

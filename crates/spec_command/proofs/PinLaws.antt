@@ -56,6 +56,7 @@ values_few key pins (word ∷ words) = subst (λ n. length (values_in key (setti
         let same : is_one_of pin_keys pair.0 ≡ true = ap (is_one_of pin_keys) (sym ((bytes_eq-Decides key pair.0).0 e)) ∙ pins in
         rw same (omega arith)
     here pair false e before = omega arith
+
     go : (setting : Option (List ℕ × List ℕ)) → length (values_in key (settings_in words)) ≤ count_by is_pin words
         → length (values_in key (cons_option setting (settings_in words))) ≤ cond (unwrap_or (option_map (λ pair. is_one_of pin_keys pair.0) setting) false) 1 0 + count_by is_pin words
     go None before = omega arith
@@ -78,6 +79,7 @@ list_few words None asked first h = go (release.value (settings_in words)) h
         let all = few_of_first list_command.asks.keys words (passed (is_bad_at list_command.asks.keys words) 0 (length words) first) (length words) (omega arith) in
         let some = values_few (codes "on") refl words in
         omega (arith, ap (count_by is_pin) (take-length words))
+
     go : (found : Option Release) → complete (length words + 1) (option_and_then (λ r. option_map (AskList r) (Some (values_in (codes "on") (settings_in words)))) found) ≡ Ok asked → length (pinned_in asked) ≤ pin_limit
     go None h = absurd cc
     go (Some r) h = let same : AskList r (values_in (codes "on") (settings_in words)) ≡ asked = cc in rw (← same) few

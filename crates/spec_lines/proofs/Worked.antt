@@ -21,12 +21,14 @@ leaf name items = record (bare Leaf name) { items = items } ∷ []
 
 -- `ADD_64_addsub_imm` by its bits 31 to 23, and two leaves of one name that fix bit 0
 abbrev machine : Machine
-machine = record { configuration = record { parameters = []; atoms = [] }; paths = leaf (codes "ADD_64_addsub_imm") (bits 26 (One ∷ Zero ∷ Zero ∷ []) ∷ bits 31 (One ∷ []) ∷ bits 23 (Zero ∷ One ∷ Zero ∷ []) ∷ [])
-    ∷ leaf (codes "DUP") (bits 28 (Zero ∷ Zero ∷ Zero ∷ Zero ∷ []) ∷ [])
-    ∷ leaf (codes "DUP") (bits 27 (Zero ∷ Zero ∷ Zero ∷ Zero ∷ Zero ∷ []) ∷ [])
-    ∷ (record (bare Leaf (codes "FEATURED")) { items = bits 28 (One ∷ One ∷ One ∷ One ∷ []) ∷ []; condition = Some (Name (codes "FEAT_A")) } ∷ [])
-    ∷ leaf (codes "ALL_ONES") (bits 24 (One ∷ One ∷ One ∷ One ∷ One ∷ One ∷ One ∷ One ∷ []) ∷ [])
-    ∷ []
+machine = record {
+  configuration = record { parameters = []; atoms = [] };
+  paths = leaf (codes "ADD_64_addsub_imm") (bits 26 (One ∷ Zero ∷ Zero ∷ []) ∷ bits 31 (One ∷ []) ∷ bits 23 (Zero ∷ One ∷ Zero ∷ []) ∷ [])
+      ∷ leaf (codes "DUP") (bits 28 (Zero ∷ Zero ∷ Zero ∷ Zero ∷ []) ∷ [])
+      ∷ leaf (codes "DUP") (bits 27 (Zero ∷ Zero ∷ Zero ∷ Zero ∷ Zero ∷ []) ∷ [])
+      ∷ (record (bare Leaf (codes "FEATURED")) { items = bits 28 (One ∷ One ∷ One ∷ One ∷ []) ∷ []; condition = Some (Name (codes "FEAT_A")) } ∷ [])
+      ∷ leaf (codes "ALL_ONES") (bits 24 (One ∷ One ∷ One ∷ One ∷ One ∷ One ∷ One ∷ One ∷ []) ∷ [])
+      ∷ [];
 }
 
 one_leaf : line machine 0 0x91000420 ≡ codes "00000000 91000420 one ADD_64_addsub_imm\n"
