@@ -1,0 +1,4 @@
+pub mod Keys
+pub mod Injective
+pub mod Growing
+pub mod Inserted
