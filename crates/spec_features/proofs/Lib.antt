@@ -6,3 +6,4 @@ pub mod Uses
 pub mod Exact
 pub mod Firsts
 pub mod Sizes
+pub mod FactLaws
