@@ -12,10 +12,10 @@ use Rattle.expr_classes.proofs.Keys.{key_eq, key_refl}
 use Rattle.expr_classes.proofs.Injective.{injective}
 
 -- a term keeps its number
-stays : (terms more : List Term) (p : ℕ) (x : Term) → slice_get terms p ≡ Some x → slice_get (terms ++ more) p ≡ Some x
+pub stays : (terms more : List Term) (p : ℕ) (x : Term) → slice_get terms p ≡ Some x → slice_get (terms ++ more) p ≡ Some x
 stays terms more p x e = slice_get-append terms more p (slice_get_within terms p x e) ∙ e
 
-expr_stays : (terms more : List Term) (p : ℕ) → IsExpr terms p → IsExpr (terms ++ more) p
+pub expr_stays : (terms more : List Term) (p : ℕ) → IsExpr terms p → IsExpr (terms ++ more) p
 expr_stays terms more p (e, at) = (e, stays terms more p (inl e) at)
 
 list_stays : (terms more : List Term) (p : ℕ) → IsExprs terms p → IsExprs (terms ++ more) p

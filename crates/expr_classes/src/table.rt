@@ -44,6 +44,14 @@ impl Table {
         }
     }
 
+    /// How many classes there are.
+    pub fn len(&self) -> usize
+        ensures count { result ≡ length self.now }
+        ensures apart { AreApart self.now }
+    {
+        self.keys.len()
+    }
+
     /// The class of a key.
     pub fn class(&mut self, key: Key) -> Result<usize, NoMemory>
         requires { HasTerms self.old key }
