@@ -2,6 +2,7 @@
 
 use bit_pattern::Pattern;
 use mrs_arena::Op;
+use serde_json::Value;
 
 /// What an object says of itself as an expression. Its texts are those of the object.
 #[derive(Clone, Copy, Debug)]
@@ -21,10 +22,10 @@ pub enum Shape<'v> {
     Set,
     /// Of `values`.
     Join,
-    /// Of `var` the one bit that the argument says.
-    Index,
-    /// Of `var` the bits from the `left` of the argument to its `right`.
-    Slice,
+    /// Of `var` the one bit that this says, the only one of `arguments`.
+    Index(&'v Value),
+    /// Of `var` the bits from the `left` of this, the only one of `arguments`, to its `right`.
+    Slice(&'v Value),
     /// None of these, whatever stands inside.
     Other,
 }

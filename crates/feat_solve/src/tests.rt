@@ -50,72 +50,77 @@ fn answer_to(alloc: Global, text: &[u8]) -> Result<Solved, Fail> {
     }
 }
 
-/// Of a clause over three variables, how each stands in it: not at all, as it is, or negated.
-fn places(clause: usize) -> [usize; 3] {
-    [clause % 3, clause / 3 % 3, clause / 9 % 3]
-}
-
-fn push_literal(text: &mut Vec<u8>, variable: u8, place: usize) -> Result<(), Fail> {
-    match place {
-        1 => text.extend_from_slice([b' ', variable].as_slice())?,
-        2 => text.extend_from_slice([b' ', b'-', variable].as_slice())?,
-        _ => {}
-    }
-    Ok(())
-}
-
-fn push_clause(text: &mut Vec<u8>, clause: usize) -> Result<(), Fail> {
-    let [a, b, c] = places(clause);
-    text.push(b'c')?;
-    push_literal(text, b'1', a)?;
-    push_literal(text, b'2', b)?;
-    push_literal(text, b'3', c)?;
-    text.push(b'\n')?;
-    Ok(())
-}
-
-fn is_true(clause: usize, states: [bool; 3]) -> bool {
-    let [a, b, c] = places(clause);
-    let [x, y, z] = states;
-    is_literal_true(a, x) || is_literal_true(b, y) || is_literal_true(c, z)
-}
-
-fn is_literal_true(place: usize, state: bool) -> bool {
-    (place == 1 && state) || (place == 2 && !state)
-}
-
-/// The first of all lists of three states, true before false, that makes each clause true.
-fn first_by_trying(clauses: [usize; 3]) -> Option<[bool; 3]> {
-    for list in 0..8 {
-        let states = [list / 4 == 0, list / 2 % 2 == 0, list % 2 == 0];
-        let [a, b, c] = clauses;
-        if is_true(a, states) && is_true(b, states) && is_true(c, states) {
-            return Some(states);
-        }
-    }
-    None
-}
-
-fn is_first(alloc: Global, clauses: [usize; 3]) -> Result<bool, Fail> {
+/// Whether the answer to three clauses over three variables is the first of the lists of states that satisfy them, of which
+/// there is a bit for each, from all on at the highest to all off at the lowest.
+fn is_first(alloc: Global, clauses: [&[u8]; 3], lists: u8) -> Result<bool, Fail> {
     let mut text: Vec<u8> = Vec::new(alloc);
     text.extend_from_slice(b"p 3 3 0\n")?;
-    for clause in clauses.iter() {
-        push_clause(&mut text, *clause)?;
+    for clause in clauses {
+        text.extend_from_slice(clause)?;
     }
-    match (answer_to(alloc, &text)?, first_by_trying(clauses)) {
-        (Solved::First(states), Some(first)) => Ok(states.as_slice() == first.as_slice()),
-        (Solved::Refuted(_log), None) => Ok(true),
-        _ => Ok(false),
+    let first = lists.leading_zeros();
+    match answer_to(alloc, &text)? {
+        Solved::First(states) => {
+            let wanted = [first & 4 == 0, first & 2 == 0, first & 1 == 0];
+            Ok(lists != 0 && states.as_slice() == wanted.as_slice())
+        }
+        Solved::Refuted(_log) => Ok(lists == 0),
+        Solved::Other => Ok(false),
     }
 }
 
-/// The formulas of three clauses over three variables; with a clause twice they are those of fewer clauses.
+/// The formulas of three clauses over three variables against all lists of states; with a clause twice they are those of
+/// fewer clauses.
 #[test]
-fn small_formulas_by_trying_all_lists(rt: HostRuntime) -> Result<(), Fail> {
-    for number in 0..27 * 27 * 27 {
-        let clauses = [number % 27, number / 27 % 27, number / 729];
-        assert!(rt; is_first(rt.alloc(), clauses)?);
+fn small_formulas(rt: HostRuntime) -> Result<(), Fail> {
+    // Each clause, and the lists that make it true.
+    let table: [(&[u8], u8); 27] = [
+        (b"c\n", 0b0000_0000),
+        (b"c 1\n", 0b1111_0000),
+        (b"c -1\n", 0b0000_1111),
+        (b"c 2\n", 0b1100_1100),
+        (b"c 1 2\n", 0b1111_1100),
+        (b"c -1 2\n", 0b1100_1111),
+        (b"c -2\n", 0b0011_0011),
+        (b"c 1 -2\n", 0b1111_0011),
+        (b"c -1 -2\n", 0b0011_1111),
+        (b"c 3\n", 0b1010_1010),
+        (b"c 1 3\n", 0b1111_1010),
+        (b"c -1 3\n", 0b1010_1111),
+        (b"c 2 3\n", 0b1110_1110),
+        (b"c 1 2 3\n", 0b1111_1110),
+        (b"c -1 2 3\n", 0b1110_1111),
+        (b"c -2 3\n", 0b1011_1011),
+        (b"c 1 -2 3\n", 0b1111_1011),
+        (b"c -1 -2 3\n", 0b1011_1111),
+        (b"c -3\n", 0b0101_0101),
+        (b"c 1 -3\n", 0b1111_0101),
+        (b"c -1 -3\n", 0b0101_1111),
+        (b"c 2 -3\n", 0b1101_1101),
+        (b"c 1 2 -3\n", 0b1111_1101),
+        (b"c -1 2 -3\n", 0b1101_1111),
+        (b"c -2 -3\n", 0b0111_0111),
+        (b"c 1 -2 -3\n", 0b1111_0111),
+        (b"c -1 -2 -3\n", 0b0111_1111),
+    ];
+    for (a, of_a) in table.iter() {
+        for (b, of_b) in table.iter() {
+            for (c, of_c) in table.iter() {
+                assert!(rt; is_first(rt.alloc(), [*a, *b, *c], *of_a & *of_b & *of_c)?);
+            }
+        }
     }
+    Ok(())
+}
+
+/// Clauses of 42 variables of which the last two cannot be satisfied. What the first forty decide has no part
+/// in that, so a search that learns does not try them in turn.
+fn push_hopeless(alloc: Global, text: &mut Vec<u8>) -> Result<(), Fail> {
+    text.extend_from_slice(b"p 42 44 0\n")?;
+    for variable in 1..41 {
+        text.extend_from_slice(format!(in alloc; "c {} {}\n", variable, variable + 1)?.as_bytes())?;
+    }
+    text.extend_from_slice(b"c 41 42\nc 41 -42\nc -41 42\nc -41 -42\n")?;
     Ok(())
 }
 
@@ -144,17 +149,6 @@ fn first_lists(rt: HostRuntime) -> Result<(), Fail> {
     Ok(())
 }
 
-/// Clauses of 42 variables of which the last two cannot be satisfied. What the first forty decide has no part
-/// in that, so a search that learns does not try them in turn.
-fn push_hopeless(alloc: Global, text: &mut Vec<u8>) -> Result<(), Fail> {
-    text.extend_from_slice(b"p 42 44 0\n")?;
-    for variable in 1..41 {
-        text.extend_from_slice(format!(in alloc; "c {} {}\n", variable, variable + 1)?.as_bytes())?;
-    }
-    text.extend_from_slice(b"c 41 42\nc 41 -42\nc -41 42\nc -41 -42\n")?;
-    Ok(())
-}
-
 #[test]
 fn refutations(rt: HostRuntime) -> Result<(), Fail> {
     let mut text: Vec<u8> = Vec::new(rt.alloc());
@@ -164,13 +158,10 @@ fn refutations(rt: HostRuntime) -> Result<(), Fail> {
         _ => assert!(rt; false),
     }
     match answer_to(rt.alloc(), b"p 0 1 0\nc\n".as_slice())? {
-        Solved::Refuted(log) => {
-            let first = log.steps().first();
-            assert!(rt;
-                first.is_some_and(|step| step.literals().is_empty()
-                    && step.hints() == [1].as_slice())
-            );
-        }
+        Solved::Refuted(log) => match log.steps() {
+            [step] => assert!(rt; step.literals().is_empty() && step.hints() == [1].as_slice()),
+            _ => assert!(rt; false),
+        },
         _ => assert!(rt; false),
     }
     Ok(())

@@ -26,7 +26,7 @@ use Rattle.insn_tree.specs.Conditions.{has_condition, is_conditioned, path_above
 
 -- ---- the last node of a path
 
-get_or-mapped : {X Y : Type 0} (f : X → Y) (xs : List X) (n : ℕ) (x : X) (d : Y) → slice_get xs n ≡ Some x → get_or (map f xs) n d ≡ f x
+pub get_or-mapped : {X Y : Type 0} (f : X → Y) (xs : List X) (n : ℕ) (x : X) (d : Y) → slice_get xs n ≡ Some x → get_or (map f xs) n d ≡ f x
 get_or-mapped f xs n x d at = get_or-map f xs n x d (slice_get_within xs n x at) ∙ ap f (get_or_from_slice_get xs n x x at)
 
 down : (names : List (List ℕ)) (nodes : List FlatNode) (parent : Option ℕ) → map (own_at names nodes) (reverse (path_up (parents_of nodes) parent)) ≡ path_above names nodes parent

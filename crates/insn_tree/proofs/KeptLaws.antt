@@ -1,5 +1,5 @@
 -- What the tables of a tree say of its leaves and aliases.
-use Rattle.std.proofs.Common.{◌≡◌, ◌∙◌, sym, ap, subst, ℕ, ◌<◌, ◌≤◌, Bool, true, false, cond, List, [], length, map, get_or, slice_get, Option, Some, None, option_map, IfSome, unwrap_or, All, arith, ◌⊎◌, inl, inr}
+use Rattle.std.proofs.Common.{◌≡◌, ◌∙◌, sym, ap, subst, ℕ, ◌+◌, ◌<◌, ◌≤◌, Bool, true, false, cond, List, [], length, map, get_or, slice_get, Option, Some, None, option_map, IfSome, unwrap_or, All, arith, ◌⊎◌, inl, inr}
 use Rattle.std.specs.Prelude.{find}
 use Rattle.std.specs.List.{range_with_len}
 use Rattle.std.proofs.lemmas.Bool.{cases_lt}
@@ -11,6 +11,10 @@ use Rattle.bit_pattern.specs.Views.{digits_of}
 use Rattle.spec_instructions.specs.Fields.{merged, fields}
 use Rattle.spec_instructions.specs.Paths.{label, labelled_leaf, has_label}
 use Rattle.spec_decode.specs.Verdict.{path_holds}
+use Rattle.spec_encoding.specs.Layout.{numbers}
+use Rattle.spec_encoding.specs.PathLayout.{layout}
+use Rattle.word_layout.specs.declared.layout.WordLayout.{WordLayout}
+use Rattle.word_layout.specs.Views.{numbers_of}
 use Rattle.spec_walk.specs.Limits.{node_limit}
 use Rattle.mrs_names.specs.Texts.{AreNames}
 use Rattle.mrs_names.specs.declared.name_id.NameId.{NameId}
@@ -28,6 +32,7 @@ use Rattle.insn_tree.specs.declared.alias_table.AliasTable.{AliasTable}
 use Rattle.insn_tree.specs.Views.{flat_field}
 use Rattle.insn_tree.specs.Visible.{fields_at}
 use Rattle.insn_tree.specs.Words.{merged_at}
+use Rattle.insn_tree.specs.Layouts.{layout_at}
 use Rattle.insn_tree.specs.Leaves.{name_at, leaf_names, is_shared, leaves_before, leaf_number, leaf_above}
 use Rattle.insn_tree.specs.Labels.{flat_label, has_flat_label}
 use Rattle.insn_tree.specs.Trees.{number_of, field_of, IsLeafNumber, IsLeafAbove, label_number}
@@ -37,6 +42,7 @@ use Rattle.insn_tree.proofs.RangeLaws.{rank, find_below}
 use Rattle.insn_tree.proofs.WordLaws.{merged-at}
 use Rattle.insn_tree.proofs.HoldLaws.{holds_of, merged-holds}
 use Rattle.insn_tree.proofs.VisibleLaws.{text_field, fields-at}
+use Rattle.insn_tree.proofs.LayoutLaws.{ranges-fit, layout-numbers}
 use Rattle.insn_tree.proofs.LeafLaws.{kept_within, kept_few, held_name}
 use Rattle.insn_tree.proofs.LabelLaws.{label-leaf, leaf_name-held, labelled-leaf, number-leaf}
 
@@ -75,14 +81,28 @@ module _ (nodes : List FlatNode) (table : LeafTable) (kept : AreLeaves nodes tab
 
   -- ---- fields
 
+  fields_here : (fs : List FieldRange) → slice_get table.fields l ≡ Some (map flat_field fs) → map flat_field fs ≡ fields_at nodes here
+  fields_here fs at = sym (get_or_from_slice_get table.fields l (map flat_field fs) [] at) ∙ ap (λ t. get_or t l []) kept.fields_are ∙ get_or-map (fields_at nodes) (leaves_of nodes) l 0 [] within
+
+  pub fields_fit : (fs : List FieldRange) → slice_get table.fields l ≡ Some (map flat_field fs) → All (λ f. f.range.start + f.range.width ≤ 32) fs
+  fields_fit fs at = ranges-fit nodes here fs (fields_here fs at) kept.formed
+
   pub fields_kept : (fs : List FieldRange) → slice_get table.fields l ≡ Some (map flat_field fs) → (names : List (List ℕ)) → AreNames names → AreHeld names nodes → map (field_of names) fs ≡ fields (get_or (paths_of names nodes) l [])
   fields_kept fs at names are held =
-      let got : map flat_field fs ≡ fields_at nodes here =
-      sym (get_or_from_slice_get table.fields l (map flat_field fs) [] at) ∙ ap (λ t. get_or t l []) kept.fields_are ∙ get_or-map (fields_at nodes) (leaves_of nodes) l 0 [] within in
       sym (map-twice flat_field (text_field names) fs)
-      ∙ ap (map (text_field names)) got
+      ∙ ap (map (text_field names)) (fields_here fs at)
       ∙ fields-at names are nodes held here
       ∙ ap fields (sym (path-leaf names))
+
+  -- ---- the bits of words
+
+  pub layout_kept : (b : WordLayout) → b ≡ get_or table.layouts.items l b → (names : List (List ℕ)) → AreNames names → AreHeld names nodes → numbers_of b ≡ numbers (layout (get_or (paths_of names nodes) l []))
+  layout_kept b at names are held =
+      let count : l < length (map (λ n. numbers (layout_at nodes n)) (leaves_of nodes)) = omega (arith, within, length-map (leaves_of nodes) (λ n. numbers (layout_at nodes n))) in
+      image-at numbers_of table.layouts.items (map (λ n. numbers (layout_at nodes n)) (leaves_of nodes)) kept.layouts_are l b (numbers (layout_at nodes 0)) count at
+      ∙ get_or-map (λ n. numbers (layout_at nodes n)) (leaves_of nodes) l 0 (numbers (layout_at nodes 0)) within
+      ∙ layout-numbers names are nodes held here
+      ∙ ap (λ path. numbers (layout path)) (sym (path-leaf names))
 
   -- ---- labels
 

@@ -12,3 +12,5 @@ mod PartLaws
 mod KeptLaws
 pub mod GrownTrees
 pub mod ConditionLaws
+pub mod TruthLaws
+pub mod LayoutLaws

@@ -9,6 +9,7 @@ ghost use Rattle.insn_tree.specs.Kept.{AreLeaves};
 use crate::field_table::FieldTable;
 use crate::leaf_conditions::conditioned_leaves;
 use crate::leaf_fields::leaf_fields;
+use crate::leaf_layout::leaf_layouts;
 use crate::leaf_nodes::leaf_names;
 use crate::leaf_word::merged_patterns;
 use crate::memory::NoMemory;
@@ -17,9 +18,10 @@ use bit_pattern::Pattern;
 use mrs_arena::{Arena, NodeId};
 use mrs_names::{NameId, Names};
 use std::alloc::Global;
+use word_layout::WordLayout;
 
 /// For each leaf its node and name, whether another leaf has the name, what its path fixes, whether a node on its path
-/// has a condition, and its visible fields.
+/// has a condition, its visible fields, and what its path says of the bits of words.
 #[derive(Drop)]
 pub(crate) struct LeafTable {
     pub nodes: Vec<NodeId>,
@@ -28,6 +30,7 @@ pub(crate) struct LeafTable {
     pub merged: Vec<Option<Pattern>>,
     pub conditioned: Vec<bool>,
     pub fields: FieldTable,
+    pub layouts: Vec<WordLayout>,
 }
 
 /// What is kept of these leaves.
@@ -48,6 +51,7 @@ pub(crate) fn describe_leaves(
     let merged = merged_patterns(alloc, arena, &nodes)?;
     let fields = leaf_fields(alloc, arena, &nodes)?;
     let conditioned = conditioned_leaves(alloc, arena, &nodes)?;
+    let layouts = leaf_layouts(alloc, arena, &nodes, &fields)?;
     Ok(LeafTable {
         nodes,
         names: leaf_names,
@@ -55,5 +59,6 @@ pub(crate) fn describe_leaves(
         merged,
         conditioned,
         fields,
+        layouts,
     })
 }

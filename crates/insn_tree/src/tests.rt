@@ -83,21 +83,19 @@ fn assert_label(
     Ok(())
 }
 
-/// Asserts what the path of a leaf fixes, whether it holds at `0x9000_0000`, and how many fields are visible.
+/// Asserts what the path of a leaf fixes, and how many fields are visible.
 fn assert_leaf(
     rt: &impl Abort,
     tree: &Tree,
     leaf: u32,
     node: u32,
     bits: Option<u128>,
-    holds: bool,
     fields: usize,
 ) {
     assert!(rt; leaf < tree.leaves());
     let leaf = LeafId(leaf);
     assert_eq!(rt; tree.leaf_node(leaf), NodeId(node));
     assert_eq!(rt; tree.merged(leaf).map(|merged| merged.mask), bits);
-    assert_eq!(rt; tree.leaf_holds(leaf, 0x9000_0000), holds);
     assert_eq!(rt; tree.fields(leaf).len(), fields);
 }
 
@@ -145,8 +143,8 @@ fn a_tree_answers(rt: HostRuntime) -> Result<(), Fail> {
     let (tree, mut names) = made(&rt, rt.alloc())?;
     assert_eq!(rt; tree.arena().node_count(), 6);
     assert_alias(&rt, &tree);
-    assert_leaf(&rt, &tree, 0, 2, Some(0x7000_0000), true, 3);
-    assert_leaf(&rt, &tree, 1, 3, None, false, 2);
-    assert_leaf(&rt, &tree, 2, 5, Some(0x8000_0000), true, 1);
+    assert_leaf(&rt, &tree, 0, 2, Some(0x7000_0000), 3);
+    assert_leaf(&rt, &tree, 1, 3, None, 2);
+    assert_leaf(&rt, &tree, 2, 5, Some(0x8000_0000), 1);
     assert_labels(&rt, rt.alloc(), &tree, &mut names)
 }

@@ -9,11 +9,16 @@ use crate::leaf_id::{AliasId, LeafId};
 use crate::leaf_nodes::{LeafNodes, find_leaves};
 use crate::leaf_table::{LeafTable, describe_leaves};
 use crate::memory::NoMemory;
+use crate::path_conditions::conditions_hold;
+use ast_eval::{Config, Truth};
 use bit_pattern::Pattern;
 use mrs_arena::{Arena, NodeId};
 use mrs_names::Names;
 use std::alloc::Global;
 use std::marker::Model;
+use std::sync::ledger::Ledger;
+use step_count::Steps;
+use word_layout::WordLayout;
 
 /// The tree of an arena, with what is asked of its leaves found once. It never changes, and no call but `new` takes memory.
 ///
@@ -41,13 +46,19 @@ impl Model for Tree {
 }
 
 impl Tree {
-    ghost use Rattle.std.specs.Prelude.{◌≡◌, ◌<◌, ℕ, List, length, map, option_map, slice_get, IfOk, IfSome, Some};
+    ghost use Rattle.std.specs.Prelude.{◌≡◌, ◌<◌, ◌≤◌, ◌+◌, ℕ, List, All, length, map, option_map, slice_get, IfOk, IfSome, Some};
     ghost use Rattle.bit_pattern.specs.Views.{digits_of};
     ghost use Rattle.mrs_names.specs.Texts.{AreNames};
     ghost use Rattle.mrs_arena.specs.Placed.{leaves_of, aliases_of, AreHeld};
     ghost use Rattle.spec_instructions.specs.Paths.{label, labelled_leaf};
     ghost use Rattle.spec_instructions.specs.Fields.{merged, fields};
+    ghost use Rattle.spec_encoding.specs.Layout.{numbers};
+    ghost use Rattle.spec_encoding.specs.PathLayout.{layout, free_unnamed, default_bits};
+    ghost use Rattle.word_layout.specs.Views.{numbers_of};
     ghost use Rattle.spec_decode.specs.Verdict.{path_holds};
+    ghost use Rattle.ast_eval.specs.Views.{truth_of};
+    ghost use Rattle.insn_tree.specs.Verdicts.{IsVerdictOf};
+    ghost use Rattle.spec_decode.specs.Bucket.{AreWithinWord};
     ghost use Rattle.insn_tree.specs.Trees.{IsOf, tree_paths, path_at, label_text, label_number, field_of, IsLeafAbove};
 
     /// The tree of an arena, the texts of whose names are held by `names`.
@@ -77,9 +88,10 @@ impl Tree {
         &self.arena
     }
 
-    /// How many leaves there are.
+    /// How many leaves there are. The items along the paths to them lie within the word.
     pub fn leaves(&self) -> u32
-        ensures { result ≡ length (leaves_of self.now.nodes) }
+        ensures count { result ≡ length (leaves_of self.now.nodes) }
+        ensures within { (names : List (List ℕ)) → AreWithinWord (tree_paths names self.now) }
     {
         self.leaves.nodes.len() as u32
     }
@@ -157,14 +169,69 @@ impl Tree {
     /// The visible fields in path order from the root and item order, each name once at its deepest item.
     pub fn fields(&self, l: LeafId) -> &[FieldRange]
         requires { l.0 < length (leaves_of self.now.nodes) }
-        ensures { (names : List (List ℕ)) → AreNames names → AreHeld names self.now.nodes
+        ensures visible { (names : List (List ℕ)) → AreNames names → AreHeld names self.now.nodes
             → map (field_of names) result.now ≡ fields (path_at names self.now l.0) }
+        ensures within { All (λ f. f.range.start + f.range.width ≤ 32) result.now }
     {
         self.leaves.fields.at(l.0 as usize)
     }
 
+    /// The verdict of a leaf's path on the word `w`: `No` where an item on it does not hold or a condition on it is `No`,
+    /// `Yes` where all hold and all are `Yes`, and else `Open`. Each condition sees the fields that are visible at its own
+    /// node. This is one step.
+    ///
+    /// The tree, the configuration and the names by which they are read are of one release.
+    pub fn leaf_truth<L: Ledger>(
+        &self,
+        l: LeafId,
+        w: u32,
+        config: &Config,
+        steps: &mut Steps<L>,
+    ) -> Truth
+        requires { l.0 < length (leaves_of self.now.nodes) }
+        ensures truth { IsVerdictOf self.now l.0 config.now w (truth_of result) }
+        ensures step { steps.new ≡ steps.old + 1 }
+    {
+        steps.tick();
+        if !self.items_hold(l, w) {
+            return Truth::No;
+        }
+        if !self.leaves.conditioned[l.0 as usize] {
+            return Truth::Yes;
+        }
+        conditions_hold(&self.arena, self.leaf_node(l), config, w)
+    }
+
+    /// What the path says of the bits of words: which are fixed, each to the value of the first item that fixes it, which are
+    /// free and unnamed, and the defaults of these.
+    pub fn layout(&self, l: LeafId) -> WordLayout
+        requires { l.0 < length (leaves_of self.now.nodes) }
+        ensures { (names : List (List ℕ)) → AreNames names → AreHeld names self.now.nodes
+            → numbers_of result ≡ numbers (layout (path_at names self.now l.0)) }
+    {
+        self.leaves.layouts[l.0 as usize]
+    }
+
+    /// The free unnamed bits of the path: those that no item fixes and no visible field has.
+    pub fn free_unnamed(&self, l: LeafId) -> u32
+        requires { l.0 < length (leaves_of self.now.nodes) }
+        ensures { (names : List (List ℕ)) → AreNames names → AreHeld names self.now.nodes
+            → result ≡ free_unnamed (path_at names self.now l.0) }
+    {
+        self.layout(l).free
+    }
+
+    /// The defaults of the free unnamed bits, each the value of the deepest should-be digit; 0 elsewhere.
+    pub fn default_bits(&self, l: LeafId) -> u32
+        requires { l.0 < length (leaves_of self.now.nodes) }
+        ensures { (names : List (List ℕ)) → AreNames names → AreHeld names self.now.nodes
+            → result ≡ default_bits (path_at names self.now l.0) }
+    {
+        self.layout(l).default
+    }
+
     /// Whether all items along the leaf's path hold at the word `w`.
-    pub fn leaf_holds(&self, l: LeafId, w: u32) -> bool
+    fn items_hold(&self, l: LeafId, w: u32) -> bool
         requires { l.0 < length (leaves_of self.now.nodes) }
         ensures { (names : List (List ℕ)) → result ≡ path_holds (path_at names self.now l.0) w }
     {

@@ -17,3 +17,4 @@ pub mod ClosedLaws
 pub mod TreePaths
 pub mod LimitLaws
 pub mod NameLaws
+pub mod MarkedLaws

@@ -20,7 +20,7 @@ pub struct Item {
 
 impl Item {
     ghost use Rattle.std.specs.Prelude.{None};
-    ghost use Rattle.spec_bits.specs.Item.{fixed_digits, item_holds};
+    ghost use Rattle.spec_bits.specs.Item.{fixed_digits, should_be_digits, item_holds};
     ghost use Rattle.bit_pattern.specs.Views.{digits_of};
     ghost use Rattle.mrs_arena.specs.Flat.{with_text};
     ghost use Rattle.mrs_arena.specs.Nodes.{has_name_id};
@@ -43,6 +43,19 @@ impl Item {
     {
         let should = u128::from(self.should);
         let mask = self.pattern.mask ^ (self.pattern.mask & should);
+        Pattern {
+            width: self.pattern.width,
+            mask,
+            value: self.pattern.value & mask,
+        }
+    }
+
+    /// The item's pattern with `x` in place of the digits that are not should-be: what the bits should be.
+    pub fn should_be(&self) -> Pattern
+        ensures digits { digits_of result ≡ should_be_digits (with_text None (flat_item self.now)) }
+        ensures width { result.width ≡ self.now.pattern.width }
+    {
+        let mask = u128::from(self.should);
         Pattern {
             width: self.pattern.width,
             mask,

@@ -8,6 +8,10 @@ pub mod ItemLaws
 pub mod OwnLaws
 pub mod NodeLaws
 pub mod StepRules
+pub mod ExprsLaws
+pub mod ConditionLaws
+pub mod OnceLaws
+pub mod ParamLaws
 pub mod SetLaws
 pub mod ShapedLaws
 pub mod ReleaseLaws

@@ -1,5 +1,5 @@
 -- What a draft stands for, stored as lists that give it back.
-use Rattle.std.specs.Prelude.{◌≡◌, refl, ℕ, List}
+use Rattle.std.specs.Prelude.{refl, ℕ, List}
 use Rattle.std.specs.Coded.{Coded, code_by, coded_ℕ, coded_list, coded×}
 use Rattle.spec_expressions.specs.Expression.{Expr}
 use Rattle.spec_expressions.specs.Codes.{expr_code}

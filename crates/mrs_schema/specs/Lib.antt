@@ -3,5 +3,7 @@ pub mod Kinds
 pub mod Parts
 pub mod Drafted
 pub mod Codes
+pub mod ExprsRead
+pub mod FeatureViews
 pub mod Nodes
 pub mod Release

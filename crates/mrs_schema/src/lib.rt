@@ -3,6 +3,9 @@
 
 mod bits;
 mod draft;
+mod expressions;
+mod features;
+mod functions;
 mod items;
 mod names;
 mod nodes;
@@ -11,5 +14,6 @@ mod sets;
 #[cfg(test)]
 mod tests;
 
+pub use features::{Features, Param, ParamKind};
 pub use mrs_walk::{NoMemory, ReadFault, SchemaFault, Text, Why};
 pub use reader::read_instructions;

@@ -17,6 +17,7 @@ ghost use Rattle.mrs_schema.specs.Kinds.{child_kind_of};
 ghost use Rattle.mrs_schema.specs.Nodes.{children, whole, named_above};
 
 use crate::draft::Draft;
+use crate::expressions::read_expression;
 use crate::items::read_encodeset;
 use mrs_arena::{Kind, NodeId};
 use mrs_names::is_name;
@@ -210,6 +211,10 @@ fn read_condition(here: &Here<'_>, draft: &mut Draft) -> Result<(), ReadFault>
 {
     match here.optional("condition") {
         None => Ok(()),
-        Some(condition) => Err(condition.fault(Why::NotYet)),
+        Some(condition) => {
+            let e = read_expression(&condition, draft)?;
+            draft.condition(e);
+            Ok(())
+        }
     }
 }

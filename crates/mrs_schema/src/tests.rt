@@ -1,7 +1,7 @@
 //! Documents that are read, and documents that are refused.
 
-use crate::read_instructions;
-use mrs_names::Names;
+use crate::{Features, Param, ParamKind, read_instructions};
+use mrs_names::{NameId, Names};
 use serde_json::Value;
 use std::test::Fail;
 
@@ -34,5 +34,21 @@ fn documents_are_read_or_refused(rt: HostRuntime) -> Result<(), Fail> {
         };
         assert_eq!(rt; told.as_str(), want, "{isa}");
     }
+    Ok(())
+}
+
+#[test]
+fn names_are_features_once_each(rt: HostRuntime) -> Result<(), Fail> {
+    let alloc = rt.alloc();
+    let list = [NameId(3), NameId(0), NameId(3)];
+    let features = Features::of_names(alloc, &list)?;
+    let on_or_off = |number: u32| Param {
+        name: NameId(number),
+        kind: ParamKind::Boolean,
+    };
+    let want = [on_or_off(3), on_or_off(0)];
+    assert_eq!(rt; features.params.as_slice(), want.as_slice());
+    assert!(rt; features.constraints.is_empty());
+    assert_eq!(rt; features.arena.node_count(), 0);
     Ok(())
 }

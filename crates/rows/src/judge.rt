@@ -1,13 +1,8 @@
 //! Whether a row comes as it is wanted, and whether each failing call ends it as a failure has to.
-use crate::book::Book;
 use crate::came::Came;
-use crate::object::Object;
 use crate::play::{Failing, play};
-use crate::report::{push_number, push_text};
-use crate::row::Row;
-use crate::stop::Stop;
-use crate::target::Target;
 use crate::watched::Counts;
+use row_tables::{Book, Object, Row, Stop, Target, push_number, push_text};
 use std::rt::Files;
 use std::thread::Threads;
 

@@ -1,13 +1,9 @@
 //! A row is played over objects in memory.
-use crate::book::Book;
 use crate::came::Came;
-use crate::object::Object;
-use crate::row::Row;
-use crate::stop::Stop;
-use crate::target::Target;
 use crate::watched::Watched;
 use mrs_io::{MemShelf, MemSink, MemSource};
 use mrs_query::run;
+use row_tables::{Book, Object, Row, Stop, Target};
 use std::alloc::Global;
 use std::rt::Files;
 use std::thread::Threads;

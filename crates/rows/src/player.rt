@@ -1,9 +1,6 @@
 //! Tables are read line by line, and each row is played where its block ends.
-use crate::block::Block;
-use crate::book::Book;
 use crate::judge::judge;
-use crate::row::Row;
-use crate::stop::Stop;
+use row_tables::{Block, Book, Row, Stop};
 use std::alloc::Global;
 use std::rt::Files;
 use std::thread::Threads;

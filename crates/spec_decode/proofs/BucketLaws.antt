@@ -67,6 +67,7 @@ next_bit_splits i es e = go (nat_le (length es) 8) e
 
 -- digits that fix a bit, and not to the word's, do not hold at the word
 apart : (i w : ℕ) (e : Encoding) → is_fixed i e ≡ true → fixes_to i (bit_of w i) e ≡ false → pattern_holds e.digits w ≡ false
+unfolding is_fixed fixes_to
 apart i w e fixed not_to = go (pattern_holds e.digits w) refl (value_at e.digits i) refl fixed not_to
   where
     go : (b : Bool) → pattern_holds e.digits w ≡ b → (v : Option ℕ) → value_at e.digits i ≡ v → is_some v ≡ true → is_value (bit_of w i) v ≡ false → b ≡ false

@@ -37,10 +37,10 @@ is_value v None = false
 is_value v (Some u) = u == v
 
 -- a leaf fixes bit i, to any value or to this one
-abbrev pub is_fixed : ℕ → Encoding → Bool
+unfoldable pub is_fixed : ℕ → Encoding → Bool
 is_fixed i e = is_some (value_at e.digits i)
 
-abbrev pub fixes_to : ℕ → ℕ → Encoding → Bool
+unfoldable pub fixes_to : ℕ → ℕ → Encoding → Bool
 fixes_to i v e = is_value v (value_at e.digits i)
 
 -- bit i splits leaves: all fix it, some to 0 and some to 1

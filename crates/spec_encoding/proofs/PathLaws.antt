@@ -8,7 +8,7 @@ use Rattle.std.proofs.lemmas.Slice.Eq.{bytes_eq-Decides}
 use Rattle.std.proofs.lemmas.List.Elements.{All-nil, All-cons, All-head, All-tail, All-filter}
 use Rattle.spec_bits.specs.Bits.{bit_of}
 use Rattle.spec_bits.specs.Pattern.{Digit, Zero, One, Either, digit_for, digit_value, value_at}
-use Rattle.spec_bits.specs.Item.{Item, fixed_digits, fixes, item_holds}
+use Rattle.spec_bits.specs.Item.{Item, fixed_digits, should_be_digits, fixes, should_be, item_holds}
 use Rattle.spec_bits.proofs.ItemLaws.{item_holds-each}
 use Rattle.spec_expressions.specs.Scope.{Configuration}
 use Rattle.spec_instructions.specs.Tree.{Own}
@@ -16,7 +16,7 @@ use Rattle.spec_instructions.specs.Paths.{path_items}
 use Rattle.spec_instructions.specs.Fields.{Field, has_text, is_named, visible_item, visible, fields}
 use Rattle.spec_encoding.specs.Parts.{covers}
 use Rattle.spec_encoding.specs.Named.{FieldOf}
-use Rattle.spec_encoding.specs.PathLayout.{first_fixed, fixed_at, is_open, is_shown, shown, is_free, excluded_at, layout}
+use Rattle.spec_encoding.specs.PathLayout.{first_fixed, last_should_be, fixed_at, is_open, is_shown, shown, is_free, excluded_at, layout}
 use Rattle.spec_encoding.specs.Encoding.{named_field, IsFormed}
 use Rattle.spec_encoding.proofs.NamedLaws.{names_distinct, IsPath}
 use Rattle.spec_encoding.proofs.ExclusionLaws.{passes}
@@ -36,13 +36,25 @@ fixes-lt it i b h = go (nat_lt i it.start) h
     go true k = absurd (cc)
     go false k = value-lt (digit_for (fixed_digits it) (i - it.start)) b k
 
-first_fixed-lt : (items : List Item) (i b : ℕ) → first_fixed items i ≡ Some b → b < 2
+pub first_fixed-lt : (items : List Item) (i b : ℕ) → first_fixed items i ≡ Some b → b < 2
 first_fixed-lt [] i b h = absurd (cc)
 first_fixed-lt (it ∷ items) i b h = go (first_fixed-lt items i b) (fixes it i) refl h
   where
     go : (first_fixed items i ≡ Some b → b < 2) → (o : Option ℕ) → fixes it i ≡ o → option_or o (first_fixed items i) ≡ Some b → b < 2
     go further None e k = further k
     go further (Some v) e k = fixes-lt it i b (e ∙ k)
+
+pub last_should_be-lt : (items : List Item) (i b : ℕ) → last_should_be items i ≡ Some b → b < 2
+last_should_be-lt [] i b h = absurd (cc)
+last_should_be-lt (it ∷ items) i b h = go (last_should_be-lt items i b) (last_should_be items i) refl h
+  where
+    should : (t : Bool) → cond t None (value_at (should_be_digits it) (i - it.start)) ≡ Some b → b < 2
+    should true k = absurd (cc)
+    should false k = value-lt (digit_for (should_be_digits it) (i - it.start)) b k
+
+    go : (last_should_be items i ≡ Some b → b < 2) → (o : Option ℕ) → last_should_be items i ≡ o → option_or o (should_be it i) ≡ Some b → b < 2
+    go further None e k = should (nat_lt i it.start) k
+    go further (Some v) e k = further (e ∙ k)
 
 -- a word at which items hold has the bits that they fix
 held : (items : List Item) (w i b : ℕ) → list_all (λ it. item_holds it w) items ≡ true → first_fixed items i ≡ Some b → bit_of w i ≡ b

@@ -1,9 +1,10 @@
 -- What is encoded rests on the word's 32 bits alone: two accounts of a path that agree there are as good as one.
 use Rattle.std.proofs.Common.{◌≡◌, ◌∙◌, ap, refl, ℕ, zero, suc, ◌+◌, ◌*◌, ◌%◌, ◌^◌, ◌<◌, Bool, true, false, not, ◌&&◌, ◌==◌, cond, List, [], Option, Some, None, Ok, arith}
+use Rattle.std.specs.Prelude.{is_none, unwrap_or}
 use Rattle.std.specs.List.{position_from}
 use Rattle.spec_bits.specs.Bits.{bit_of}
 use Rattle.spec_encoding.specs.Parts.{Part, some_gives, is_too_wide, is_clash, highest, number_of_bits}
-use Rattle.spec_encoding.specs.Layout.{Layout, flipped, rest_in, is_against, is_misfixed, is_stray}
+use Rattle.spec_encoding.specs.Layout.{Layout, LayoutNumbers, numbers, flipped, rest_in, is_against, is_misfixed, is_stray}
 use Rattle.spec_encoding.specs.Refusal.{UnknownField, DoubledField, MissingField, TooWide, Clash, FixedBit, RestBit, Excluded, unless}
 use Rattle.spec_encoding.specs.Placed.{not_given, made_bit, made, placed}
 use Rattle.spec_encoding.specs.Named.{FieldOf, is_unknown, doubled_from, missing, encoded, parts}
@@ -41,6 +42,22 @@ module _ (l m : Layout) (same : SameLayout l m) where
 
   pub rest_in-same : (w : ℕ) → rest_in l w ≡ rest_in m w
   rest_in-same w = number_of_bits-same (flipped l w) (flipped m w) 32 (flipped-same w)
+
+  -- and both have the same numbers
+  pub numbers-same : numbers l ≡ numbers m
+  numbers-same =
+      let mask = number_of_bits-same (λ i. cond (is_none (l.fixed i)) 0 1) (λ i. cond (is_none (m.fixed i)) 0 1) 32 (λ i below. ap (λ o. cond (is_none o) 0 1) (same.fixed i below)) in
+      let value = number_of_bits-same (λ i. unwrap_or (l.fixed i) 0) (λ i. unwrap_or (m.fixed i) 0) 32 (λ i below. ap (λ o. unwrap_or o 0) (same.fixed i below)) in
+      let free = number_of_bits-same (λ i. cond (l.free i) 1 0) (λ i. cond (m.free i) 1 0) 32 (λ i below. ap (λ b. cond b 1 0) (same.free i below)) in
+      let default = number_of_bits-same (λ i. cond (l.free i) (l.default i) 0) (λ i. cond (m.free i) (m.default i) 0) 32 (λ i below. ap (λ b. cond b (l.default i) 0) (same.free i below) ∙ chosen i below (m.free i) refl) in
+      ap (λ x. record { mask = x; value = (numbers l).value; free = (numbers l).free; default = (numbers l).default }) mask
+      ∙ ap (λ x. record { mask = (numbers m).mask; value = x; free = (numbers l).free; default = (numbers l).default }) value
+      ∙ ap (λ x. record { mask = (numbers m).mask; value = (numbers m).value; free = x; default = (numbers l).default }) free
+      ∙ ap (λ x. record { mask = (numbers m).mask; value = (numbers m).value; free = (numbers m).free; default = x }) default
+    where
+      chosen : (i : ℕ) → i < 32 → (b : Bool) → m.free i ≡ b → cond b (l.default i) 0 ≡ cond b (m.default i) 0
+      chosen i below true e = same.default i below e
+      chosen i below false e = refl
 
   misfixed-same : (ps : List Part) → highest (is_misfixed l ps) 32 ≡ highest (is_misfixed m ps) 32
   misfixed-same ps = highest-same (is_misfixed l ps) (is_misfixed m ps) 32 (λ i below. ap (is_against ps i) (same.fixed i below))

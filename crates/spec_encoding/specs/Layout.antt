@@ -1,5 +1,5 @@
 -- What is known of the bits of words before fields are given values, and the rest of a word, which is in no field.
-use Rattle.std.specs.Prelude.{ℕ, ◌+◌, ◌-◌, ◌%◌, ◌==◌, Bool, false, not, ◌&&◌, List, Option, Some, None, if◌then◌else◌}
+use Rattle.std.specs.Prelude.{ℕ, ◌+◌, ◌-◌, ◌%◌, ◌==◌, Bool, false, not, ◌&&◌, List, Option, Some, None, is_none, unwrap_or, if◌then◌else◌}
 use Rattle.spec_bits.specs.Bits.{bit_of}
 use Rattle.spec_encoding.specs.Parts.{Part, some_gives, number_of_bits}
 
@@ -28,3 +28,20 @@ is_misfixed l ps i = is_against ps i (l.fixed i)
 -- a rest has a bit that is not free
 abbrev pub is_stray : Layout → ℕ → ℕ → Bool
 is_stray l rest i = bit_of rest i == 1 && not (l.free i)
+
+-- ---- the word's 32 bits alone
+
+-- a layout as four numbers, of 32 bits each: which bits are fixed and to what, which are free, and the defaults of those
+pub record LayoutNumbers : Type 0 where
+  pub mask : ℕ
+  pub value : ℕ
+  pub free : ℕ
+  pub default : ℕ
+
+abbrev pub numbers : Layout → LayoutNumbers
+numbers l = record {
+  mask = number_of_bits (λ i. if is_none (l.fixed i) then 0 else 1) 32;
+  value = number_of_bits (λ i. unwrap_or (l.fixed i) 0) 32;
+  free = number_of_bits (λ i. if l.free i then 1 else 0) 32;
+  default = number_of_bits (λ i. if l.free i then l.default i else 0) 32;
+}

@@ -11,7 +11,7 @@ use Rattle.spec_instructions.specs.Paths.{path_items}
 use Rattle.spec_instructions.specs.Fields.{Field, fields}
 use Rattle.spec_decode.specs.Verdict.{condition_truth}
 use Rattle.spec_encoding.specs.Parts.{covers}
-use Rattle.spec_encoding.specs.Layout.{Layout, rest_in}
+use Rattle.spec_encoding.specs.Layout.{Layout, numbers, rest_in}
 
 -- the value to which the first item that fixes bit i fixes it
 abbrev pub first_fixed : List Item → ℕ → Option ℕ
@@ -46,6 +46,13 @@ default_at path i = unwrap_or (last_should_be (path_items path) i) 0
 
 abbrev pub layout : List Own → Layout
 layout path = record { fixed = fixed_at path; free = is_free path; default = default_at path }
+
+-- the free unnamed bits of a path as a number, and the defaults of these bits, with 0 elsewhere
+abbrev pub free_unnamed : List Own → ℕ
+free_unnamed path = (numbers (layout path)).free
+
+abbrev pub default_bits : List Own → ℕ
+default_bits path = (numbers (layout path)).default
 
 -- the rest of a word: its free unnamed bits against their defaults
 abbrev pub rest_of : List Own → ℕ → ℕ

@@ -1,2 +1,2 @@
-//! Which texts are names. Definitions alone, in `specs/`.
+//! Which texts are names, and things each once. Definitions alone, in `specs/`, and laws about them, in `proofs/`.
 #![tactic(auto)]

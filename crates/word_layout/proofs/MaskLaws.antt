@@ -83,6 +83,10 @@ either (suc (suc x)) y hx hy = absurd (omega arith)
 either zero (suc (suc y)) hx hy = absurd (omega arith)
 either (suc zero) (suc (suc y)) hx hy = absurd (omega arith)
 
+-- a bit of two masks together
+pub or-test : (a b i : ℕ) → has_bit (bit_or a b) i ≡ (has_bit a i || has_bit b i)
+or-test a b i = ap (λ x. x == 1) (bit_at_or a b i) ∙ either (bit_of a i) (bit_of b i) (bit_at-lt a i) (bit_at-lt b i)
+
 or_same : (x y z : Bool) → y ≡ z → (x || y) ≡ (x || z)
 or_same x y z e = ap (λ b. x || b) e
 

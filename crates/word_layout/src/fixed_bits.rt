@@ -14,9 +14,9 @@ pub struct FixedBits {
 }
 
 impl FixedBits {
-    ghost use Rattle.std.specs.Prelude.{◌≡◌, ◌<◌, ℕ, None};
+    ghost use Rattle.std.specs.Prelude.{◌≡◌, ◌≤◌, ◌+◌, ℕ, None};
     ghost use Rattle.std.specs.Option.{option_or};
-    ghost use Rattle.spec_bits.specs.Pattern.{value_at};
+    ghost use Rattle.spec_bits.specs.Item.{value_from};
     ghost use Rattle.bit_pattern.specs.Views.{digits_of};
     ghost use Rattle.word_layout.specs.Views.{fixed_in};
 
@@ -27,14 +27,14 @@ impl FixedBits {
         FixedBits { mask: 0, value: 0 }
     }
 
-    /// The bits that a pattern of the word's width fixes.
-    pub fn of_pattern(pattern: &Pattern) -> FixedBits
-        requires { pattern.now.width ≡ 32 }
-        ensures { (i : ℕ) → i < 32 → fixed_in result i ≡ value_at (digits_of pattern.now) i }
+    /// The bits that a pattern fixes, its digits standing from bit `start` up within the word.
+    pub fn at(start: u8, pattern: &Pattern) -> FixedBits
+        requires { start + pattern.now.width ≤ 32 }
+        ensures { (i : ℕ) → fixed_in result i ≡ value_from start (digits_of pattern.now) i }
     {
         FixedBits {
-            mask: pattern.mask as u32,
-            value: pattern.value as u32,
+            mask: (pattern.mask as u32) << start,
+            value: (pattern.value as u32) << start,
         }
     }
 

@@ -18,6 +18,7 @@ pub struct WordLayout {
     pub default: u32,
     pub ghost inside: { bit_and value mask ≡ value },
     pub ghost apart: { bit_and free mask ≡ 0 },
+    pub ghost defaults: { bit_and default free ≡ default },
     pub ghost mask_fits: { mask < 2 ^ 32 },
     pub ghost free_fits: { free < 2 ^ 32 },
 }

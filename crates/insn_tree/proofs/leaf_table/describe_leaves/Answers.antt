@@ -9,6 +9,8 @@ use Rattle.mrs_arena.specs.Placed.{leaves_of, has_kind}
 use Rattle.insn_tree.specs.Leaves.{name_at, is_shared}
 use Rattle.insn_tree.specs.Words.{merged_at}
 use Rattle.insn_tree.specs.Visible.{fields_at}
+use Rattle.spec_encoding.specs.Layout.{numbers}
+use Rattle.insn_tree.specs.Layouts.{layout_at}
 use Rattle.insn_tree.specs.Conditions.{is_conditioned}
 use Rattle.insn_tree.proofs.ListLaws.{All-unmap, map-twice}
 use Rattle.insn_tree.proofs.LeafLaws.{kept_within, kept_few, held_name}
@@ -62,6 +64,13 @@ leaf_fields-requires c = are_nodes c.args.arena.now.nodes c.args.nodes.items c.d
 pub conditioned_leaves-requires : goal.conditioned_leaves-requires
 conditioned_leaves-requires c = are_nodes c.args.arena.now.nodes c.args.nodes.items c.deref-5.result.now c.requires.leaves c.deref-5.ensures.value
 
+pub leaf_layouts-requires-clause-nodes : goal.leaf_layouts-requires-clause-nodes
+leaf_layouts-requires-clause-nodes c = are_nodes c.args.arena.now.nodes c.args.nodes.items c.deref-6.result.now c.requires.leaves c.deref-6.ensures.value
+
+pub leaf_layouts-requires-clause-visible : goal.leaf_layouts-requires-clause-visible
+leaf_layouts-requires-clause-visible c =
+    c.in_ok-fields.ensures ∙ ap (map (λ (n : NodeId). fields_at c.args.arena.now.nodes n.0)) (c.deref-4.ensures.value ∙ sym c.deref-6.ensures.value)
+
 pub returns-clause-leaves : goal.returns-clause-leaves
 returns-clause-leaves c =
     let nodes = c.args.arena.now.nodes in
@@ -79,5 +88,6 @@ returns-clause-leaves c =
       merged_are = c.in_ok-merged.ensures.digits ∙ ap (map (λ (n : NodeId). merged_at nodes n.0)) c.deref-3.ensures.value ∙ of_leaves (merged_at nodes) items (leaves_of nodes) leaves;
       widths = c.in_ok-merged.ensures.widths;
       conditioned_are = c.in_ok-conditioned.ensures ∙ ap (map (λ (n : NodeId). is_conditioned nodes n.0)) c.deref-5.ensures.value ∙ of_leaves (is_conditioned nodes) items (leaves_of nodes) leaves;
+      layouts_are = c.in_ok-layouts.ensures ∙ ap (map (λ (n : NodeId). numbers (layout_at nodes n.0))) c.deref-6.ensures.value ∙ of_leaves (λ n. numbers (layout_at nodes n)) items (leaves_of nodes) leaves;
       fields_are = c.in_ok-fields.ensures ∙ ap (map (λ (n : NodeId). fields_at nodes n.0)) c.deref-4.ensures.value ∙ of_leaves (fields_at nodes) items (leaves_of nodes) leaves;
     }

@@ -1,0 +1,4 @@
+pub mod Members
+pub mod Decides
+pub mod Deciders
+pub mod Formed

@@ -1,0 +1,9 @@
+use Rattle.std.proofs.Common.{ap}
+use Rattle.insn_tree.specs.Trees.{TreeParts}
+use Rattle.insn_tree.proofs.KeptLaws.{AreLeaves-of, layout_kept}
+use Rattle.insn_tree.proofs.tree.Tree.layout.Goals as goal
+
+pub returns : goal.returns
+returns c =
+    let kept = AreLeaves-of c.self.inside.leaves c.self.inside.arena.nodes c.args.self.now.nodes (ap (λ (t : TreeParts). t.nodes) c.self.view_is) c.self.invariant.0 in
+    layout_kept c.args.self.now.nodes c.self.inside.leaves kept c.args.l.0 c.requires c.index.result.now c.index.ensures

@@ -1,0 +1,93 @@
+-- Parameters that are kept one after the other, each name once.
+use Rattle.std.proofs.Common.{◌≡◌, ◌≢◌, ◌∙◌, refl, sym, ap, subst, ℕ, ◌+◌, ◌<◌, ◌≤◌, ◌==◌, ◌||◌, List, [], ◌∷◌, ◌++◌, length, get_or, drop, map, Bool, true, false, append-nil, All, AllPairs, length-append, arith}
+use Rattle.std.specs.List.{list_any}
+use Rattle.std.proofs.lemmas.List.{map_push, length-map, get_or-map, at_drop_more, at_drop_all}
+use Rattle.std.proofs.lemmas.List.Quantifiers.{all_pairs_push}
+use Rattle.std.proofs.lemmas.List.Elements.{All-nil}
+use Rattle.spec_names.specs.Distinct.{distinct_by}
+use Rattle.spec_features.specs.Features.{param_limit}
+use Rattle.mrs_arena.specs.Expressions.{expr_at}
+use Rattle.mrs_names.specs.declared.name_id.NameId.{NameId}
+use Rattle.mrs_schema.specs.declared.features.Param.{Param}
+use Rattle.mrs_schema.specs.declared.features.ParamKind.TheVariants.{Boolean}
+use Rattle.mrs_schema.specs.declared.features.Features.{Features}
+use Rattle.mrs_schema.specs.FeatureViews.{param_of, features_of, booleans_alone, AreFeatures}
+use Rattle.mrs_schema.proofs.OnceLaws.{is_kept, behind, behind-kept, behind-new, behind-none, differs_from_kept}
+
+abbrev pub names_of : List Param → List ℕ
+names_of params = map (λ param. param.name.0) params
+
+abbrev pub numbers_of : List NameId → List ℕ
+numbers_of list = map (λ name. name.0) list
+
+-- the parameters of the names up to one
+pub record AreKept (params : List Param) (i : ℕ) (list : List NameId) : Type 0 where
+  pub few : length params ≤ i
+  pub rest : behind (names_of params) (numbers_of (drop i list)) ≡ distinct_by ◌==◌ (numbers_of list)
+  pub booleans : map param_of params ≡ (booleans_alone (names_of params)).params
+  pub distinct : AllPairs (λ first second. first.name.0 ≢ second.name.0) params
+
+pub AreKept-none : (params : List Param) (list : List NameId) → params ≡ [] → AreKept params 0 list
+AreKept-none params list none = subst (λ (ps : List Param). AreKept ps 0 list) (sym none) (record { few = omega arith; rest = behind-none (numbers_of list); booleans = refl; distinct = λ i j d low high. absurd (omega arith) })
+
+is_kept-names : (params : List Param) (n : ℕ) → is_kept (names_of params) n ≡ list_any (λ param. param.name.0 == n) params
+is_kept-names [] n = refl
+is_kept-names (p ∷ params) n = ap (λ b. (p.name.0 == n) || b) (is_kept-names params n)
+
+-- the name of a place
+abbrev pub name_at : List NameId → ℕ → NameId
+name_at list i = get_or list i (record { 0 = 0 })
+
+rest-here : (params : List Param) (i : ℕ) (list : List NameId) → i < length list → behind (names_of params) (numbers_of (drop i list)) ≡ behind (names_of params) ((name_at list i).0 ∷ numbers_of (drop (i + 1) list))
+rest-here params i list within = at_drop_more (λ xs. behind (names_of params) (numbers_of xs)) list i (record { 0 = 0 }) within
+
+-- a name that is kept already
+pub AreKept-held : {params : List Param} {i : ℕ} {list : List NameId} → AreKept params i list → i < length list → (held : List Param) → held ≡ params → list_any (λ param. param.name.0 == (name_at list i).0) held ≡ true → AreKept params (i + 1) list
+AreKept-held {params} {i} {list} k within held same is = record {
+  few = omega (arith, k.few);
+  rest = sym (behind-kept (names_of params) (name_at list i).0 (numbers_of (drop (i + 1) list)) (is_kept-names params (name_at list i).0 ∙ ap (list_any (λ param. param.name.0 == (name_at list i).0)) (sym same) ∙ is)) ∙ sym (rest-here params i list within) ∙ k.rest;
+  booleans = k.booleans;
+  distinct = k.distinct;
+}
+
+-- and one that is not
+abbrev pub boolean : NameId → Param
+boolean name = record { name = name; kind = Boolean }
+
+pub AreKept-new : {params : List Param} {i : ℕ} {list : List NameId} → AreKept params i list → i < length list → (held : List Param) → held ≡ params → list_any (λ param. param.name.0 == (name_at list i).0) held ≡ false
+    → (new : List Param) → new ≡ params ++ boolean (name_at list i) ∷ [] → AreKept new (i + 1) list
+AreKept-new {params} {i} {list} k within held same is new put =
+    let name = name_at list i in
+    let free : is_kept (names_of params) name.0 ≡ false = is_kept-names params name.0 ∙ ap (list_any (λ param. param.name.0 == name.0)) (sym same) ∙ is in
+    subst (λ (ps : List Param). AreKept ps (i + 1) list) (sym put) (record {
+      few = omega (arith, k.few, length-append params (boolean name ∷ []));
+      rest =
+          ap (λ ns. behind ns (numbers_of (drop (i + 1) list))) (map_push (λ (param : Param). param.name.0) params (boolean name))
+          ∙ sym (behind-new (names_of params) name.0 (numbers_of (drop (i + 1) list)) free) ∙ sym (rest-here params i list within) ∙ k.rest;
+      booleans =
+          map_push param_of params (boolean name) ∙ ap (λ ps. ps ++ param_of (boolean name) ∷ []) k.booleans
+          ∙ sym (ap (λ ns. (booleans_alone ns).params) (map_push (λ (param : Param). param.name.0) params (boolean name)) ∙ map_push (λ n. param_of (boolean (record { 0 = n }))) (names_of params) name.0);
+      distinct = all_pairs_push (λ first second. first.name.0 ≢ second.name.0) params (boolean name) k.distinct
+          (λ j d low alike. differs_from_kept (names_of params) name.0 free j d.name.0 (omega (arith, length-map params (λ (param : Param). param.name.0))) (get_or-map (λ param. param.name.0) params j d d.name.0 low ∙ alike));
+    })
+
+-- in the end they are those of the names, each once
+kept_all : {params : List Param} {i : ℕ} {list : List NameId} → AreKept params i list → length list ≤ i → map param_of params ≡ (booleans_alone (distinct_by ◌==◌ (numbers_of list))).params
+kept_all {params} {i} {list} k past =
+    k.booleans ∙ ap (λ ns. (booleans_alone ns).params) (sym (at_drop_all (λ xs. behind (names_of params) (numbers_of xs)) list i past ∙ append-nil (names_of params)) ∙ k.rest)
+
+-- so they are features, with no constraint
+pub record AreMade (f : Features) (list : List NameId) : Type 0 where
+  pub names : features_of f ≡ booleans_alone (distinct_by ◌==◌ (numbers_of list))
+  pub sound : AreFeatures f
+
+pub features_made : (f : Features) {i : ℕ} {list : List NameId} → AreKept f.params.items i list → length list ≤ i → f.constraints.items ≡ [] → i ≤ param_limit → AreMade f list
+features_made f {i} {list} k past none few = record {
+  names = ap (λ ps. record { params = ps; constraints = map (λ id. expr_at f.arena.exprs id.0) f.constraints.items }) (kept_all k past) ∙ ap (λ cs. record { params = (booleans_alone (distinct_by ◌==◌ (numbers_of list))).params; constraints = map (λ id. expr_at f.arena.exprs id.0) cs }) none;
+  sound = record {
+    few = omega (arith, k.few);
+    distinct = k.distinct;
+    few_constraints = omega (arith, ap length none);
+    within = subst (All (λ id. id.0 < length f.arena.exprs)) (sym none) (All-nil (λ id. id.0 < length f.arena.exprs));
+  };
+}

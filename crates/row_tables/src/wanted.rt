@@ -1,0 +1,71 @@
+//! How a row has to end.
+use crate::bytes::{counted, small_number};
+use crate::stop::Stop;
+use std::alloc::Global;
+
+#[derive(Drop)]
+pub struct Wanted {
+    /// The number with which the program ends.
+    pub status: Option<u32>,
+    /// A part of the status's text, as its `Debug` writes it.
+    pub answer: String,
+    /// What goes out.
+    pub out: Vec<u8>,
+    /// What is said of what went wrong.
+    pub err: Vec<u8>,
+}
+
+impl Wanted {
+    pub fn nothing(alloc: Global) -> Wanted {
+        Wanted {
+            status: None,
+            answer: String::new(alloc),
+            out: Vec::new(alloc),
+            err: Vec::new(alloc),
+        }
+    }
+
+    /// Reads a line on the end of the row.
+    pub fn take(&mut self, alloc: Global, key: &str, text: &str) -> Result<(), Stop> {
+        let text = unquoted(text);
+        match key {
+            "status" => self.status = Some(small_number(text)?),
+            "answer" => self.answer = String::from_str(alloc, text)?,
+            "line" => push_line(&mut self.out, text)?,
+            "part" => self.out.extend_from_slice(text.as_bytes())?,
+            "listed" => push_listed(alloc, &mut self.out, text)?,
+            "says" => push_line(&mut self.err, text)?,
+            "says-part" => self.err.extend_from_slice(text.as_bytes())?,
+            _ => return Err(Stop::Line("no line of a row begins with this word")),
+        }
+        Ok(())
+    }
+}
+
+/// The text between quotes, or the text where it has none: quotes show the spaces at its ends.
+fn unquoted(text: &str) -> &str {
+    let Some(rest) = text.strip_prefix('"') else {
+        return text;
+    };
+    match rest.strip_suffix('"') {
+        Some(inner) => inner,
+        None => text,
+    }
+}
+
+fn push_line(out: &mut Vec<u8>, text: &str) -> Result<(), Stop> {
+    out.extend_from_slice(text.as_bytes())?;
+    out.push(b'\n')?;
+    Ok(())
+}
+
+/// Appends so many lines that end in the text, each behind the offset of its word.
+fn push_listed(alloc: Global, out: &mut Vec<u8>, text: &str) -> Result<(), Stop> {
+    let (count, text) = counted(text)?;
+    for number in 0..count {
+        let offset = u64::from(number) * 4;
+        let line = format!(in alloc; "{offset:08x} {text}")?;
+        push_line(out, line.as_str())?;
+    }
+    Ok(())
+}
