@@ -4,3 +4,5 @@ pub mod Steps
 pub mod Bounds
 pub mod Outcomes
 pub mod Distinct
+pub mod Sole
+pub mod Numbers

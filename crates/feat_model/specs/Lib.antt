@@ -2,3 +2,5 @@ pub mod Views
 pub mod Encodes
 pub mod Inside
 pub mod Configures
+pub mod Asked
+pub mod Found

@@ -1,6 +1,8 @@
 //! Features as clauses: which configurations fit, which one is first, or a log that shows that none fits.
 #![tactic(auto)]
 
+mod asking;
+mod atoms;
 mod clauses;
 mod configuring;
 mod connective;
@@ -9,6 +11,7 @@ mod faults;
 mod formula;
 mod model;
 mod outcome;
+mod parameters;
 mod pin;
 
 pub use configuring::configure;
