@@ -4,7 +4,7 @@ ghost use Rattle.std.specs.Prelude.{◌≡◌, ℕ, ◌<◌, ◌++◌, List, len
 ghost use Rattle.spec_expressions.specs.Expression.{ExprOf};
 ghost use Rattle.mrs_arena.specs.Expressions.{expr_at, list_of};
 ghost use Rattle.expr_classes.specs.Terms.{Term, AreApart};
-ghost use Rattle.expr_classes.specs.Classes.{Stands, ListStands, AllStand, HaveExprs, Grown, AreClasses};
+ghost use Rattle.expr_classes.specs.Classes.{Stands, ListStands, AllStand, HaveExprs, Grown, AreBelow, AreClasses};
 
 use crate::classes::Classes;
 use crate::key::{Key, class_at, key_of, parts_of};
@@ -70,7 +70,8 @@ fn class_of(
 /// The classes of the expressions of an arena. Two have one class exactly where they are equal part by part and no Other stands in
 /// them; an expression in which one stands has no class.
 pub fn number(alloc: Global, arena: &Arena) -> Result<Classes, NoMemory>
-    ensures { IfOk result (λ c. AreClasses arena.now.exprs c.classes) }
+    ensures same { IfOk result (λ c. AreClasses arena.now.exprs c.classes) }
+    ensures below { IfOk result AreBelow }
 {
     let mut table = Table::new(alloc);
     let mut classes = Vec::new(alloc);

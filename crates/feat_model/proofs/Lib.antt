@@ -6,3 +6,4 @@ pub mod Outcomes
 pub mod Distinct
 pub mod Sole
 pub mod Numbers
+pub mod Leaves

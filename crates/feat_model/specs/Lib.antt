@@ -4,3 +4,4 @@ pub mod Inside
 pub mod Configures
 pub mod Asked
 pub mod Found
+pub mod Meets

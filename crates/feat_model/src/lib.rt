@@ -10,9 +10,12 @@ mod encoder;
 mod faults;
 mod formula;
 mod model;
+mod operators;
 mod outcome;
 mod parameters;
 mod pin;
+mod scope;
+mod translation;
 
 pub use configuring::configure;
 pub use faults::ModelFault;

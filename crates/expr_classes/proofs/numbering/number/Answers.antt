@@ -20,8 +20,8 @@ pub from_parts-requires : goal.from_parts-requires
 from_parts-requires c = λ k class lt is.
     omega (arith, class_within c.loop-e.table c.loop-e.classes.items c.args.arena.now.exprs c.loop-e.invariant.all k class lt is, c.len-count.ensures.count)
 
-pub returns : goal.returns
-returns c =
+pub returns-clause-same : goal.returns-clause-same
+returns-clause-same c =
     let P : Numbered → Type 0 = λ n. AreClasses c.args.arena.now.exprs n.classes in
     subst P (sym c.from_parts.ensures)
     (are_classes c.loop-e.table c.loop-e.classes.items c.args.arena.now.exprs c.len-count.ensures.apart (omega (arith, c.loop-e.invariant.count, c.expr_count-e-end.ensures, c.loop-e-test.false, c.loop-e.auto.e-end)) c.loop-e.invariant.all)
