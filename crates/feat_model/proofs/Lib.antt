@@ -7,3 +7,5 @@ pub mod Distinct
 pub mod Sole
 pub mod Numbers
 pub mod Leaves
+pub mod Joining
+pub mod Made

@@ -9,6 +9,7 @@ mod connective;
 mod encoder;
 mod faults;
 mod formula;
+mod making;
 mod model;
 mod operators;
 mod outcome;
