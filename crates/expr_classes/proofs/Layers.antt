@@ -31,8 +31,10 @@ one_key terms None e s = s
 two_key : (terms : List Term) (op : Op) (o p : Option ℕ) (e f : ExprOf ℕ) → Stands terms o e → Stands terms p f → KeyStands terms (of_two (key.Binary op) o p) (Binary (op_of op) e f)
 two_key terms op (Some c) (Some d) e f s t = (
   ((e, s.0), (f, t.0)),
-  (ap (λ o. inl (Binary (op_of op) (expr_in o) (expr_in (slice_get terms d)))) s.0 ∙ ap (λ o. inl (Binary (op_of op) e (expr_in o))) t.0,
-  and_from (no_other e) (no_other f) s.1 t.1),
+  (
+    ap (λ o. inl (Binary (op_of op) (expr_in o) (expr_in (slice_get terms d)))) s.0 ∙ ap (λ o. inl (Binary (op_of op) e (expr_in o))) t.0,
+    and_from (no_other e) (no_other f) s.1 t.1,
+  ),
 )
 two_key terms op (Some c) None e f s t = and_right (no_other e) (no_other f) t
 two_key terms op None p e f s t = and_left (no_other e) (no_other f) s
@@ -40,9 +42,11 @@ two_key terms op None p e f s t = and_left (no_other e) (no_other f) s
 three_key : (terms : List Term) (o p q : Option ℕ) (e f g : ExprOf ℕ) → Stands terms o e → Stands terms p f → Stands terms q g → KeyStands terms (of_three key.Slice o p q) (Slice e f g)
 three_key terms (Some c) (Some d) (Some b) e f g s t u = (
   ((e, s.0), ((f, t.0), (g, u.0))),
-  (ap (λ o. inl (Slice (expr_in o) (expr_in (slice_get terms d)) (expr_in (slice_get terms b)))) s.0
-  ∙ ap (λ o. inl (Slice e (expr_in o) (expr_in (slice_get terms b)))) t.0 ∙ ap (λ o. inl (Slice e f (expr_in o))) u.0,
-  and_from (no_other e) (no_other f && no_other g) s.1 (and_from (no_other f) (no_other g) t.1 u.1)),
+  (
+    ap (λ o. inl (Slice (expr_in o) (expr_in (slice_get terms d)) (expr_in (slice_get terms b)))) s.0
+        ∙ ap (λ o. inl (Slice e (expr_in o) (expr_in (slice_get terms b)))) t.0 ∙ ap (λ o. inl (Slice e f (expr_in o))) u.0,
+    and_from (no_other e) (no_other f && no_other g) s.1 (and_from (no_other f) (no_other g) t.1 u.1),
+  ),
 )
 three_key terms (Some c) (Some d) None e f g s t u = and_right (no_other e) (no_other f && no_other g) (and_right (no_other f) (no_other g) u)
 three_key terms (Some c) None q e f g s t u = and_right (no_other e) (no_other f && no_other g) (and_left (no_other f) (no_other g) t)

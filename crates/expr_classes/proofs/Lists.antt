@@ -59,13 +59,14 @@ list_goes_on start now new classes parts n k c d first part next at before withi
       have = grown_have now new classes grown before.have;
       list = (expr (expr_in (slice_get now first)) (list_in (slice_get now c)), is);
       stands = λ exprs all.
-      let Q : Option ℕ → Type 0 = λ o. Stands start o (expr_at exprs part.0) in
-      let one : Stands start (Some first) (expr_at exprs part.0) = subst Q class (all part.0 within) in
-      let rest = before.stands exprs all in
-      let head : expr_in (slice_get now first) ≡ expr_at exprs part.0 = ap expr_in (grown_get start now first (inl (expr_at exprs part.0)) before.grown one.0) in
-      let tail : list_in (slice_get now c) ≡ list_of (expr_at exprs) (drop n parts) = ap list_in rest.0 in
-      (is ∙ ap (λ e. Some (inr (expr e (list_in (slice_get now c))))) head ∙ ap (λ es. Some (inr (expr (expr_at exprs part.0) es))) tail,
-      and_from (no_other (expr_at exprs part.0)) (no_others (list_of (expr_at exprs) (drop n parts))) one.1 rest.1);
+          let Q : Option ℕ → Type 0 = λ o. Stands start o (expr_at exprs part.0) in
+          let one : Stands start (Some first) (expr_at exprs part.0) = subst Q class (all part.0 within) in
+          let rest = before.stands exprs all in
+          let head : expr_in (slice_get now first) ≡ expr_at exprs part.0 = ap expr_in (grown_get start now first (inl (expr_at exprs part.0)) before.grown one.0) in
+          let tail : list_in (slice_get now c) ≡ list_of (expr_at exprs) (drop n parts) = ap list_in rest.0 in (
+            is ∙ ap (λ e. Some (inr (expr e (list_in (slice_get now c))))) head ∙ ap (λ es. Some (inr (expr (expr_at exprs part.0) es))) tail,
+            and_from (no_other (expr_at exprs part.0)) (no_others (list_of (expr_at exprs) (drop n parts))) one.1 rest.1,
+          );
     })
 
 -- a part without a class

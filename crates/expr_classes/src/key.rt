@@ -37,11 +37,7 @@ pub(crate) fn class_at(classes: &[Option<usize>], e: ExprId) -> Option<usize>
 
 /// The key of an expression by the classes of its parts and of its list; `None` where a part has no class, and of what is
 /// none of the expressions.
-pub(crate) fn key_of(
-    classes: &[Option<usize>],
-    list: Option<usize>,
-    e: ExprRef<'_>,
-) -> Option<Key>
+pub(crate) fn key_of(classes: &[Option<usize>], list: Option<usize>, e: ExprRef<'_>) -> Option<Key>
     requires { Below (length classes.now) e }
     ensures { result ≡ key_of classes.now list e.entry }
 {

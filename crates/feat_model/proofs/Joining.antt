@@ -77,7 +77,7 @@ joins params i p keys new apart from at is =
     let none = fresh params i p keys apart from at in
     let here : get_or params i p ≡ p = get_or_from_slice_get params i p p at in
     let left : drop i params ≡ p ∷ drop (i + 1) params =
-        drop-cons params i p (slice_get_within params i p at) ∙ ap (λ x. x ∷ drop (suc i) params) here ∙ ap (λ k. p ∷ drop k params) (sym (add-one i)) in
+    drop-cons params i p (slice_get_within params i p at) ∙ ap (λ x. x ∷ drop (suc i) params) here ∙ ap (λ k. p ∷ drop k params) (sym (add-one i)) in
     record {
       names = joined keys new p (drop (i + 1) params) none is ∙ ap (λ ps. numbers_of keys ++ booleans (map param_of ps)) (sym left);
       from = come params i p keys new from at none is;

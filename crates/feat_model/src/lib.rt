@@ -23,3 +23,6 @@ pub use faults::ModelFault;
 pub use model::Model;
 pub use outcome::Outcome;
 pub use pin::Pin;
+
+#[cfg(test)]
+mod tests;

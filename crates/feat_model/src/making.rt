@@ -67,7 +67,12 @@ fn boolean_names(alloc: Global, params: &[Param]) -> Result<IndexSet<NameId>, No
 }
 
 /// The formulas of constraints, one behind the other.
-fn formulas(alloc: Global, scope: &Scope<'_>, atoms: &mut Atoms, constraints: &[ExprId]) -> Result<Vec<Formula>, NoMemory>
+fn formulas(
+    alloc: Global,
+    scope: &Scope<'_>,
+    atoms: &mut Atoms,
+    constraints: &[ExprId],
+) -> Result<Vec<Formula>, NoMemory>
     requires within { All (λ id. id.0 < length scope.now.arena.now.exprs) constraints.now }
     requires scope { IsScope scope.now.arena.now.exprs scope.now.classes.now scope.now.names.now.keys }
     requires numbered { AreNumbered scope.now.classes.now.classes scope.now.classes.now.count atoms.old.found.items atoms.old.numbers.items }

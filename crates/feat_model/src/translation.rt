@@ -49,7 +49,12 @@ fn leaf(scope: &Scope<'_>, atoms: &mut Atoms, e: ExprId) -> Result<Formula, NoMe
 }
 
 /// The formula of a constraint, or of a part of one.
-pub(crate) fn formula(alloc: Global, scope: &Scope<'_>, atoms: &mut Atoms, e: ExprId) -> Result<Formula, NoMemory>
+pub(crate) fn formula(
+    alloc: Global,
+    scope: &Scope<'_>,
+    atoms: &mut Atoms,
+    e: ExprId,
+) -> Result<Formula, NoMemory>
     requires within { e.0 < length scope.now.arena.now.exprs }
     requires scope { IsScope scope.now.arena.now.exprs scope.now.classes.now scope.now.names.now.keys }
     requires numbered { AreNumbered scope.now.classes.now.classes scope.now.classes.now.count atoms.old.found.items atoms.old.numbers.items }
