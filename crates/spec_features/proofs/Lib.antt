@@ -7,3 +7,4 @@ pub mod Exact
 pub mod Firsts
 pub mod Sizes
 pub mod FactLaws
+pub mod Renamed
