@@ -1,7 +1,7 @@
 -- What features say does not rest on what their names are, as long as different names stay different.
 use Rattle.std.proofs.Common.{◌≡◌, ℕ, ◌+◌, Bool, true, false, cond, not, ◌&&◌, List, [], ◌∷◌, ◌++◌, length, map, filter, Option, Some, None, option_and_then, option_map, refl, sym, ap, ◌∙◌, subst}
 use Rattle.std.specs.Prelude.{position}
-use Rattle.std.specs.List.{AllByRecursion, position_from}
+use Rattle.std.specs.List.{AllByRecursion, position_from, list_all, filter_map, cons_option}
 use Rattle.std.proofs.lemmas.Iterator.Adapters.{position_from-zero}
 use Rattle.std.proofs.lemmas.List.{length-map, map-append}
 use Rattle.spec_expressions.specs.Expression.{FunctionOf, UInt, IsZero, IsOnes, IsFeatureImplemented, Named, ExprOf, Boolean, Integer, Bits, Name, Not, Binary, Call, Set, Join, Slice, Other, ExprsOf, no_exprs, expr, EachName, EachNameOfAll, FunctionHasNames, function_with_names, with_names, all_with_names}
@@ -9,7 +9,9 @@ use Rattle.spec_features.specs.Features as features
 use Rattle.spec_features.specs.Features.{ParamOf, FeaturesOf, is_boolean, booleans}
 use Rattle.spec_features.specs.Fact.{same_op, same_function, same_fact, same_facts}
 use Rattle.spec_features.specs.Formula.{Connective, connective, Formula, Variable, Negation, Joined}
-use Rattle.spec_features.specs.Theory.{TheoryOf, Met, asked_name, parameter, atom, parameter_or_atom, leaf, both_sides, formula, formulas, theory}
+use Rattle.spec_features.specs.Theory.{TheoryOf, Met, asked_name, parameter, atom, parameter_or_atom, leaf, both_sides, formula, formulas, theory, theory_with_names, states}
+use Rattle.spec_features.specs.Fits.{PinOf, has_state, agrees, Fits, IsFirstFitting}
+use Rattle.spec_features.specs.Clauses.{signed, last_of, constraints_from, pin_clause, variables, clauses}
 
 same_place : {X Y : Type 0} (p : X → Bool) (q : Y → Bool) (f : X → Y) (P : X → Type 0) → ((x : X) → P x → p x ≡ q (f x)) → (i : ℕ) (xs : List X) → AllByRecursion P xs → position_from p i xs ≡ position_from q i (map f xs)
 same_place p q f P same i [] all = refl
@@ -142,3 +144,103 @@ module _ {M N : Type 0} (same : M → M → Bool) (again : N → N → Bool) (na
   formula_alike names e atoms others are all_names all held =
       let P : List (ExprOf N) → Type 0 = λ os. Alike (leaf same names e atoms) (leaf again (map named names) (with_names named e) os) in
       subst P (sym are) (leaf_alike names e atoms all_names all held)
+
+  formulas_alike : (names : List M) (es : List (ExprOf M)) (atoms : List (ExprOf M)) (others : List (ExprOf N)) → others ≡ map (with_names named) atoms → AllByRecursion Held names → AllByRecursion (EachName Held) atoms
+      → AllByRecursion (EachName Held) es → Alike (formulas same names es atoms) (formulas again (map named names) (map (with_names named) es) others)
+  formulas_alike names [] atoms others are all_names all held = record { made = refl; atoms = are; held = all }
+  formulas_alike names (e ∷ es) atoms others are all_names all held =
+      let first = formula_alike names e atoms others are all_names all held.0 in
+      let rest = formulas_alike names es (formula same names e atoms).atoms (formula again (map named names) (with_names named e) others).atoms first.atoms all_names first.held held.1 in
+      record {
+        made = ap (λ f. f ∷ (formulas again (map named names) (map (with_names named) es) (formula again (map named names) (with_names named e) others).atoms).made) first.made
+            ∙ ap (λ fs. (formula same names e atoms).made ∷ fs) rest.made;
+        atoms = rest.atoms;
+        held = rest.held;
+      }
+
+  -- ---- theories
+
+  booleans_alike : (params : List (ParamOf M)) → booleans (map (λ (p : ParamOf M). let q : ParamOf N = record { name = named p.name; kind = p.kind } in q) params) ≡ map named (booleans params)
+  booleans_alike [] = refl
+  booleans_alike (p ∷ params) = go (is_boolean p.kind) (booleans_alike params)
+    where
+      renamed : ParamOf M → ParamOf N
+      renamed q = record { name = named q.name; kind = q.kind }
+
+      go : (b : Bool) → booleans (map renamed params) ≡ map named (booleans params)
+          → map (λ (q : ParamOf N). q.name) (cond b (renamed p ∷ filter (λ (q : ParamOf N). is_boolean q.kind) (map renamed params)) (filter (λ (q : ParamOf N). is_boolean q.kind) (map renamed params)))
+          ≡ map named (map (λ (q : ParamOf M). q.name) (cond b (p ∷ filter (λ (q : ParamOf M). is_boolean q.kind) params) (filter (λ (q : ParamOf M). is_boolean q.kind) params)))
+      go true h = ap (λ ns. named p.name ∷ ns) h
+      go false h = h
+
+  booleans_held : (params : List (ParamOf M)) → AllByRecursion (λ (p : ParamOf M). Held p.name) params → AllByRecursion Held (booleans params)
+  booleans_held [] all = tt
+  booleans_held (p ∷ params) all = go (is_boolean p.kind) (booleans_held params all.1)
+    where
+      go : (b : Bool) → AllByRecursion Held (booleans params)
+          → AllByRecursion Held (map (λ (q : ParamOf M). q.name) (cond b (p ∷ filter (λ (q : ParamOf M). is_boolean q.kind) params) (filter (λ (q : ParamOf M). is_boolean q.kind) params)))
+      go true h = (all.0, h)
+      go false h = h
+
+  pub theory_alike : (f : FeaturesOf M) → features.EachName Held f → theory again (features.with_names named f) ≡ theory_with_names named (theory same f)
+  theory_alike f held =
+      let names = booleans f.params in
+      let es = map (with_names named) f.constraints in
+      let alike_all = formulas_alike names f.constraints [] [] refl (booleans_held f.params held.params) tt held.constraints in
+      let named_by : List N → TheoryOf N = λ ns. record { names = ns; atoms = length (formulas again ns es []).atoms; constraints = (formulas again ns es []).made } in
+      ap named_by (booleans_alike f.params)
+      ∙ ap (λ (n : ℕ). let t : TheoryOf N = record { names = map named names; atoms = n; constraints = (formulas again (map named names) es []).made } in t)
+      (ap length alike_all.atoms ∙ length-map (formulas same names f.constraints []).atoms (with_names named))
+      ∙ ap (λ (fs : List Formula). let t : TheoryOf N = record { names = map named names; atoms = length (formulas same names f.constraints []).atoms; constraints = fs } in t) alike_all.made
+
+  -- ---- pins
+
+  abbrev pub pins_named : List (PinOf M) → List (PinOf N)
+  pins_named pins = map (λ (pin : PinOf M). (named pin.0, pin.1)) pins
+
+  abbrev pub ArePinsHeld : List (PinOf M) → Type 0
+  ArePinsHeld pins = AllByRecursion (λ (pin : PinOf M). Held pin.0) pins
+
+  pub agree_alike : (names : List M) (g : List Bool) (pins : List (PinOf M)) → AllByRecursion Held names → ArePinsHeld pins
+      → list_all (agrees again (map named names) g) (pins_named pins) ≡ list_all (agrees same names g) pins
+  agree_alike names g [] all held = refl
+  agree_alike names g (pin ∷ pins) all held =
+      ap (λ o. has_state pin.1 g o && list_all (agrees again (map named names) g) (pins_named pins)) (sym (name_place names pin.0 all held.0))
+      ∙ ap (λ b. agrees same names g pin && b) (agree_alike names g pins all held.1)
+
+  pub pin_clauses_alike : (names : List M) (pins : List (PinOf M)) → AllByRecursion Held names → ArePinsHeld pins
+      → filter_map (pin_clause again (map named names)) (pins_named pins) ≡ filter_map (pin_clause same names) pins
+  pin_clauses_alike names [] all held = refl
+  pin_clauses_alike names (pin ∷ pins) all held =
+      ap (λ o. cons_option (option_map (λ k. signed pin.1 (k + 1) ∷ []) o) (filter_map (pin_clause again (map named names)) (pins_named pins))) (sym (name_place names pin.0 all held.0))
+      ∙ ap (λ cs. cons_option (pin_clause same names pin) cs) (pin_clauses_alike names pins all held.1)
+
+  pub clauses_alike : (t : TheoryOf M) (pins : List (PinOf M)) → AllByRecursion Held t.names → ArePinsHeld pins
+      → clauses again (theory_with_names named t) (pins_named pins) ≡ clauses same t pins
+  clauses_alike t pins all held =
+      ap (λ n. constraints_from (n + t.atoms) t.constraints ++ filter_map (pin_clause again (map named t.names)) (pins_named pins)) (length-map t.names named)
+      ∙ ap (λ cs. constraints_from (states t) t.constraints ++ cs) (pin_clauses_alike t.names pins all held)
+
+  pub variables_alike : (t : TheoryOf M) → variables (theory_with_names named t) ≡ variables t
+  variables_alike t = ap (λ n. last_of (n + t.atoms) t.constraints) (length-map t.names named)
+
+  pub fits_alike : (t : TheoryOf M) (pins : List (PinOf M)) (g : List Bool) → AllByRecursion Held t.names → ArePinsHeld pins → Fits same t pins g → Fits again (theory_with_names named t) (pins_named pins) g
+  fits_alike t pins g all held fits = record {
+    whole = fits.whole ∙ ap (λ n. n + t.atoms) (sym (length-map t.names named));
+    holding = fits.holding;
+    pinned = agree_alike t.names g pins all held ∙ fits.pinned;
+  }
+
+  pub fits_back : (t : TheoryOf M) (pins : List (PinOf M)) (g : List Bool) → AllByRecursion Held t.names → ArePinsHeld pins → Fits again (theory_with_names named t) (pins_named pins) g → Fits same t pins g
+  fits_back t pins g all held fits = record {
+    whole = fits.whole ∙ ap (λ n. n + t.atoms) (length-map t.names named);
+    holding = fits.holding;
+    pinned = sym (agree_alike t.names g pins all held) ∙ fits.pinned;
+  }
+
+  pub first_alike : (t : TheoryOf M) (pins : List (PinOf M)) (g : List Bool) → AllByRecursion Held t.names → ArePinsHeld pins → IsFirstFitting same t pins g
+      → IsFirstFitting again (theory_with_names named t) (pins_named pins) g
+  first_alike t pins g all held first = record {
+    fits = fits_alike t pins g all held first.fits;
+    first = λ others fits before. first.first others (fits_back t pins others all held fits) before;
+  }

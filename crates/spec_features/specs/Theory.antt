@@ -2,7 +2,7 @@
 -- parameter, and IsFeatureImplemented of that name, stand for the parameter. Any other expression under connectives is an
 -- atom, of which no more is known than that it holds or does not. Variables are the boolean parameters in order, and behind
 -- them the atoms in the order in which they first occur, left side first.
-use Rattle.std.specs.Prelude.{ℕ, ◌+◌, Bool, List, [], ◌∷◌, ◌++◌, length, Option, Some, None, position, option_and_then}
+use Rattle.std.specs.Prelude.{ℕ, ◌+◌, Bool, map, List, [], ◌∷◌, ◌++◌, length, Option, Some, None, position, option_and_then}
 use Rattle.spec_expressions.specs.Expression.{IsFeatureImplemented, ExprOf, Boolean, Name, Not, Binary, Call, no_exprs, expr}
 use Rattle.spec_features.specs.Features.{FeaturesOf, booleans}
 use Rattle.spec_features.specs.Fact.{same_fact}
@@ -84,3 +84,7 @@ abbrev pub parts : {N : Type 0} → ExprOf N → ℕ
 parts (Not e) = parts e + 1
 parts (Binary op l r) = parts_by (connective op) (parts l) (parts r)
 parts e = 1
+
+-- a theory with other names in place of its own
+abbrev pub theory_with_names : {M N : Type 0} → (M → N) → TheoryOf M → TheoryOf N
+theory_with_names f t = record { names = map f t.names; atoms = t.atoms; constraints = t.constraints }
