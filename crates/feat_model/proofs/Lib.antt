@@ -4,3 +4,8 @@ pub mod Steps
 pub mod Bounds
 pub mod Outcomes
 pub mod Distinct
+pub mod Sole
+pub mod Numbers
+pub mod Leaves
+pub mod Joining
+pub mod Made

@@ -33,7 +33,7 @@ first_chosen t pins c all g is made first names states_are atoms_are =
     let Q : List Bool → Type 0 = λ h. IsFirstFitting nat_eq t pins h in
     let le = first_reaches t pins c all made first in
     let whole : take (states t) all ≡ g.states ++ g.atoms =
-        take-add (length t.names) t.atoms all ∙ ap (λ h. h ++ take t.atoms (drop (length t.names) all)) (sym states_are) ∙ ap (λ h. g.states ++ h) (sym atoms_are) in
+    take-add (length t.names) t.atoms all ∙ ap (λ h. h ++ take t.atoms (drop (length t.names) all)) (sym states_are) ∙ ap (λ h. g.states ++ h) (sym atoms_are) in
     record {
       names_are = names;
       as_many = ap length states_are ∙ cut (length t.names) all (omega (arith, le));

@@ -2,3 +2,6 @@ pub mod Views
 pub mod Encodes
 pub mod Inside
 pub mod Configures
+pub mod Asked
+pub mod Found
+pub mod Meets

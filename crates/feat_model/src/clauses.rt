@@ -50,12 +50,7 @@ fn put_constraints(
 }
 
 /// Puts the clause of a pin, unless it names no boolean parameter.
-fn put_pin(
-    alloc: Global,
-    encoder: &mut Encoder,
-    model: &Model,
-    pin: Pin,
-) -> Result<bool, NoMemory>
+fn put_pin(alloc: Global, encoder: &mut Encoder, model: &Model, pin: Pin) -> Result<bool, NoMemory>
     ensures last { encoder.new.last ≡ encoder.old.last }
     ensures found { IfOk result (λ found. found ≡ is_some (position (nat_eq pin.0) model.now.names)) }
     ensures put { OnOk result (encoder.new.clauses.items ≡ encoder.old.clauses.items ++ option_to_list (pin_clause nat_eq model.now.names pin)) }

@@ -88,13 +88,7 @@ impl Encoder {
     }
 
     /// Puts the clauses by which `whole` is true where `left` and `right` are.
-    fn put_both(
-        &mut self,
-        alloc: Global,
-        whole: Lit,
-        left: Lit,
-        right: Lit,
-    ) -> Result<(), NoMemory>
+    fn put_both(&mut self, alloc: Global, whole: Lit, left: Lit, right: Lit) -> Result<(), NoMemory>
         ensures last { self.new.last ≡ self.old.last }
         ensures put { OnOk result (self.new.clauses.items ≡ self.old.clauses.items ++ table Conjunction whole left right) }
     {

@@ -4,6 +4,7 @@ ghost use Rattle.std.specs.Prelude.{◌≡◌};
 ghost use Rattle.feat_model.specs.Inside.{IsModel, theory_of};
 
 use crate::formula::Formula;
+use crate::parameters::parameter;
 use indexmap::IndexSet;
 use mrs_names::NameId;
 use std::alloc::{AllocError, Global};
@@ -74,10 +75,7 @@ impl Model {
         ensures place { result ≡ position (nat_eq name.0) self.now.names }
         ensures few { IfSome result (λ k. k < 4096) }
     {
-        match self.names.get_index_of(&name) {
-            Some(index) => Some(index as u32),
-            None => None,
-        }
+        parameter(&self.names, name)
     }
 
     /// The names of the boolean parameters, in order.

@@ -1,7 +1,7 @@
 //! Operators of two sides.
 
 /// An operator of an expression of two sides: `&&`, `||`, `-->`, `<->`, `==`, `!=`, `<`, `<=`, `>`, `>=` or `IN`.
-#[derive(Clone, Copy, PartialEq, Eq, Debug)]
+#[derive(Clone, Copy, PartialEq, Eq, Hash, Debug)]
 pub enum Op {
     And,
     Or,

@@ -26,9 +26,10 @@ pub carried : (g xs : List Bool) → Carries (assignment (g ++ xs)) (length g) x
 carried g [] = tt
 carried g (x ∷ xs) =
     let P : List Bool → Type 0 = λ all. Carries (assignment all) (length g + 1) xs in
-    let Q : ℕ → Type 0 = λ n. Carries (assignment ((g ++ x ∷ []) ++ xs)) n xs in
-    (assignment_at (g ++ x ∷ xs) (length g) ∙ get_or-append_seam g x xs false,
-    subst P (append_assoc g (x ∷ []) xs) (subst Q (length-append g (x ∷ [])) (carried (g ++ x ∷ []) xs)))
+    let Q : ℕ → Type 0 = λ n. Carries (assignment ((g ++ x ∷ []) ++ xs)) n xs in (
+      assignment_at (g ++ x ∷ xs) (length g) ∙ get_or-append_seam g x xs false,
+      subst P (append_assoc g (x ∷ []) xs) (subst Q (length-append g (x ∷ [])) (carried (g ++ x ∷ []) xs)),
+    )
 
 -- and no other list of its length is
 pub carried_is : (g others xs : List Bool) → length others ≡ length xs → Carries (assignment (g ++ others)) (length g) xs → others ≡ xs

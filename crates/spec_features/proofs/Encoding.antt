@@ -294,20 +294,20 @@ says n u v a last le (Joined c f g) w =
         let behind : r.last ≡ l.last + length (auxiliaries u g) = last_is u l.last g in
         record {
           made = λ carries.
-          let p = carries_parts v last (auxiliaries u f) (auxiliaries u g ++ x ∷ []) carries in
-          let q = carries_parts v l.last (auxiliaries u g) (x ∷ []) (subst at (sym before) p.1) in
-          let end : at_end r.last = subst at_end (sym behind) q.1 in
-          let sl = left.made p.0 in
-          let sr = right.made q.0 in
-          whole ∙ and_from (satisfies v l.clauses) (satisfies v r.clauses && satisfies v t) sl
-          (and_from (satisfies v r.clauses) (satisfies v t) sr
-          (gate sl sr ∙ ap (λ b. same_truth b x) end.0 ∙ same_refl x));
+              let p = carries_parts v last (auxiliaries u f) (auxiliaries u g ++ x ∷ []) carries in
+              let q = carries_parts v l.last (auxiliaries u g) (x ∷ []) (subst at (sym before) p.1) in
+              let end : at_end r.last = subst at_end (sym behind) q.1 in
+              let sl = left.made p.0 in
+              let sr = right.made q.0 in
+              whole ∙ and_from (satisfies v l.clauses) (satisfies v r.clauses && satisfies v t) sl
+              (and_from (satisfies v r.clauses) (satisfies v t) sr
+              (gate sl sr ∙ ap (λ b. same_truth b x) end.0 ∙ same_refl x));
           forced = λ s.
-          let p = parts s in
-          let end : at_end r.last = (sym (same_is (v (r.last + 1)) x (sym (gate p.0 p.1.0) ∙ p.1.1)), tt) in
-          carries_both v last (auxiliaries u f) (auxiliaries u g ++ x ∷ []) (left.forced p.0)
-          (subst at before (carries_both v l.last (auxiliaries u g) (x ∷ []) (right.forced p.1.0) (subst at_end behind end)));
+              let p = parts s in
+              let end : at_end r.last = (sym (same_is (v (r.last + 1)) x (sym (gate p.0 p.1.0) ∙ p.1.1)), tt) in
+              carries_both v last (auxiliaries u f) (auxiliaries u g ++ x ∷ []) (left.forced p.0)
+              (subst at before (carries_both v l.last (auxiliaries u g) (x ∷ []) (right.forced p.1.0) (subst at_end behind end)));
           literal = λ s.
-          let p = parts s in
-          variable_true v (r.last + 1) (omega arith) ∙ sym (same_is (v (r.last + 1)) x (sym (gate p.0 p.1.0) ∙ p.1.1));
+              let p = parts s in
+              variable_true v (r.last + 1) (omega arith) ∙ sym (same_is (v (r.last + 1)) x (sym (gate p.0 p.1.0) ∙ p.1.1));
         }

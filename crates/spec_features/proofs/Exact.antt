@@ -57,21 +57,21 @@ all_say n u v a last le (f ∷ fs) w = go (says n u v a last le f w.0) (all_say 
         λ s. ap (λ b. b && ((literal_true v e.literal || false) && true)) s ∙ alone (literal_true v e.literal) ∙ first.literal s in
         record {
           made = λ c.
-          let p = split c in
-          connectives ∙ and_from (satisfies v e.clauses) (satisfies v (connectives_from e.last fs)) (first.made p.0) (rest.made p.1);
+              let p = split c in
+              connectives ∙ and_from (satisfies v e.clauses) (satisfies v (connectives_from e.last fs)) (first.made p.0) (rest.made p.1);
           forced = λ s.
-          let p = and_parts (satisfies v e.clauses) (satisfies v (connectives_from e.last fs)) (sym connectives ∙ s) in
-          carries_both v last (auxiliaries u f) (all_auxiliaries u fs) (first.forced p.0)
-          (let at : ℕ → Type 0 = λ k. Carries v k (all_auxiliaries u fs) in subst at (last_is u last f) (rest.forced p.1));
+              let p = and_parts (satisfies v e.clauses) (satisfies v (connectives_from e.last fs)) (sym connectives ∙ s) in
+              carries_both v last (auxiliaries u f) (all_auxiliaries u fs) (first.forced p.0)
+              (let at : ℕ → Type 0 = λ k. Carries v k (all_auxiliaries u fs) in subst at (last_is u last f) (rest.forced p.1));
           exact = λ s.
-          let p = and_parts (satisfies v e.clauses) (satisfies v (connectives_from e.last fs)) (sym connectives ∙ s) in
-          constraints
-          ∙ ap (λ b. b && satisfies v (constraints_from e.last fs)) (one ∙ literal p.0)
-          ∙ ap (λ b. holds u f && b) (rest.exact p.1);
+              let p = and_parts (satisfies v e.clauses) (satisfies v (connectives_from e.last fs)) (sym connectives ∙ s) in
+              constraints
+              ∙ ap (λ b. b && satisfies v (constraints_from e.last fs)) (one ∙ literal p.0)
+              ∙ ap (λ b. holds u f && b) (rest.exact p.1);
           among = λ s.
-          let p = and_parts (satisfies v (constraint_clauses e)) (satisfies v (constraints_from e.last fs)) (sym constraints ∙ s) in
-          let q = and_parts (satisfies v e.clauses) ((literal_true v e.literal || false) && true) (sym one ∙ p.0) in
-          connectives ∙ and_from (satisfies v e.clauses) (satisfies v (connectives_from e.last fs)) q.0 (rest.among p.1);
+              let p = and_parts (satisfies v (constraint_clauses e)) (satisfies v (constraints_from e.last fs)) (sym constraints ∙ s) in
+              let q = and_parts (satisfies v e.clauses) ((literal_true v e.literal || false) && true) (sym one ∙ p.0) in
+              connectives ∙ and_from (satisfies v e.clauses) (satisfies v (connectives_from e.last fs)) q.0 (rest.among p.1);
         }
       where
         split : Carries v last (auxiliaries u f ++ all_auxiliaries u fs) → Carries v last (auxiliaries u f) × Carries v (encoded last f).last (all_auxiliaries u fs)

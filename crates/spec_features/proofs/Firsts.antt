@@ -57,16 +57,16 @@ pub solved_fits : {N : Type 0} (same : N → N → Bool) (t : TheoryOf N) → Cl
 solved_fits same t closed pins g e v a s =
     let say : AllSay (assignment g) v (states t) t.constraints = all_say (states t) (assignment g) v a (states t) (omega arith) t.constraints closed in
     let p = and_parts (satisfies v (constraints_from (states t) t.constraints)) (satisfies v (filter_map (pin_clause same t.names) pins))
-        (sym (list_all-append (clause_true v) (constraints_from (states t) t.constraints) (filter_map (pin_clause same t.names) pins)) ∙ s) in
+    (sym (list_all-append (clause_true v) (constraints_from (states t) t.constraints) (filter_map (pin_clause same t.names) pins)) ∙ s) in
     let q = and_parts (list_all (holds (assignment g)) t.constraints) (list_all (agrees same t.names g) pins)
-        (sym (clauses_exact same t closed pins g e v a (say.among p.0)) ∙ s) in
+    (sym (clauses_exact same t closed pins g e v a (say.among p.0)) ∙ s) in
     record { whole = e; holding = q.0; pinned = q.1 }
 
 pub extended_good : {N : Type 0} (t : TheoryOf N) → Closed t → (g : List Bool) → length g ≡ states t → satisfies (assignment (g ++ extension t g)) (connective_clauses t) ≡ true
 extended_good t closed g e =
     let v = assignment (g ++ extension t g) in
     let say : AllSay (assignment g) v (states t) t.constraints =
-        all_say (states t) (assignment g) v (more_agree (states t) g (extension t g) (omega (arith, e))) (states t) (omega arith) t.constraints closed in
+    all_say (states t) (assignment g) v (more_agree (states t) g (extension t g) (omega (arith, e))) (states t) (omega arith) t.constraints closed in
     let P : ℕ → Type 0 = λ n. Carries v n (extension t g) in
     say.made (subst P e (carried g (extension t g)))
 
@@ -86,12 +86,12 @@ extends same f g e =
       whole = extended_length t g e;
       good = extended_good t closed g e;
       only = λ others len s.
-      let v = assignment (g ++ others) in
-      let say : AllSay (assignment g) v (states t) t.constraints =
+          let v = assignment (g ++ others) in
+          let say : AllSay (assignment g) v (states t) t.constraints =
           all_say (states t) (assignment g) v (more_agree (states t) g others (omega (arith, e))) (states t) (omega arith) t.constraints closed in
-      let P : ℕ → Type 0 = λ n. Carries v n (extension t g) in
-      carried_is g others (extension t g) (omega (arith, len, extended_length t g e, length-append g others, length-append g (extension t g)))
-      (subst P (sym e) (say.forced s));
+          let P : ℕ → Type 0 = λ n. Carries v n (extension t g) in
+          carried_is g others (extension t g) (omega (arith, len, extended_length t g e, length-append g others, length-append g (extension t g)))
+          (subst P (sym e) (say.forced s));
       exact = λ pins. (
         λ s. solved_fits same t closed pins g e (assignment (g ++ extension t g)) (more_agree (states t) g (extension t g) (omega (arith, e))) s,
         λ fits. fitting_solves same t closed pins g fits,
@@ -123,18 +123,18 @@ first_configuration same t closed pins all first =
     record {
       fits = solved_fits same t closed pins (take n all) whole (assignment all) (cut_agrees n all) first.good;
       first = λ others fits before.
-      let extended = others ++ extension t others in
-      let low : before.at < n = omega (arith, before.within, whole) in
-      let front : (k : ℕ) → k < n → slice_index_or extended k false ≡ slice_index_or others k false =
+          let extended = others ++ extension t others in
+          let low : before.at < n = omega (arith, before.within, whole) in
+          let front : (k : ℕ) → k < n → slice_index_or extended k false ≡ slice_index_or others k false =
           λ k lt. get_or_append_left others (extension t others) false k (omega (arith, lt, fits.whole)) in
-      let cut : (k : ℕ) → k < n → slice_index_or (take n all) k false ≡ slice_index_or all k false = λ k lt. get_or-take n all k false lt in
-      first.first extended (extended_length t others fits.whole) (fitting_solves same t closed pins others fits) (record {
-        at = before.at;
-        within = omega (arith, low, le);
-        agree = λ k lt. front k (omega (arith, lt, low)) ∙ before.agree k lt ∙ cut k (omega (arith, lt, low));
-        on = front before.at low ∙ before.on;
-        off = sym (cut before.at low) ∙ before.off;
-      });
+          let cut : (k : ℕ) → k < n → slice_index_or (take n all) k false ≡ slice_index_or all k false = λ k lt. get_or-take n all k false lt in
+          first.first extended (extended_length t others fits.whole) (fitting_solves same t closed pins others fits) (record {
+            at = before.at;
+            within = omega (arith, low, le);
+            agree = λ k lt. front k (omega (arith, lt, low)) ∙ before.agree k lt ∙ cut k (omega (arith, lt, low));
+            on = front before.at low ∙ before.on;
+            off = sym (cut before.at low) ∙ before.off;
+          });
     }
 
 pub first_solution : {N : Type 0} (same : N → N → Bool) (t : TheoryOf N) → Closed t → (pins : List (PinOf N)) (g : List Bool)
@@ -175,7 +175,7 @@ first_solution same t closed pins g first = record {
         let a : Agree n (assignment g) v = agree_from n g others (λ k lt. sym (front k lt) ∙ sym (b.agree k (omega (arith, lt, high)))) in
         let say : AllSay (assignment g) v n t.constraints = all_say n (assignment g) v a n (omega arith) t.constraints closed in
         let p = and_parts (satisfies v (constraints_from n t.constraints)) (satisfies v (filter_map (pin_clause same t.names) pins))
-            (sym (list_all-append (clause_true v) (constraints_from n t.constraints) (filter_map (pin_clause same t.names) pins)) ∙ s) in
+        (sym (list_all-append (clause_true v) (constraints_from n t.constraints) (filter_map (pin_clause same t.names) pins)) ∙ s) in
         let P : ℕ → Type 0 = λ m. Carries w m (extension t g) in
         let inside : b.at < n + length (extension t g) = omega (arith, b.within, length-append g (extension t g), first.fits.whole) in
         both_ways (slice_index_or others b.at false)

@@ -6,3 +6,5 @@ pub mod Uses
 pub mod Exact
 pub mod Firsts
 pub mod Sizes
+pub mod FactLaws
+pub mod Renamed

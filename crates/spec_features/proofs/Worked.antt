@@ -28,8 +28,8 @@ abbrev small : Features
 small = record {
   params = three;
   constraints = Binary Implies (Name (codes "FEAT_PMULL")) (Name (codes "FEAT_AES"))
-    ∷ Not (Binary And (Name (codes "FEAT_TST")) (Name (codes "FEAT_AES")))
-    ∷ Binary Or (Name (codes "FEAT_TST")) has_el2 ∷ [];
+      ∷ Not (Binary And (Name (codes "FEAT_TST")) (Name (codes "FEAT_AES")))
+      ∷ Binary Or (Name (codes "FEAT_TST")) has_el2 ∷ [];
 }
 
 abbrev small_theory : TheoryOf (List ℕ)
@@ -44,7 +44,7 @@ one_atom = refl
 seven_variables : variables small_theory ≡ 7
 seven_variables = refl
 
-fourteen_clauses : clauses bytes_eq small_theory clashing ≡ 
+fourteen_clauses : clauses bytes_eq small_theory clashing ≡
     (pos 5 ∷ pos 2 ∷ [])
     ∷ (pos 5 ∷ negsuc 0 ∷ [])
     ∷ (negsuc 4 ∷ negsuc 1 ∷ pos 1 ∷ [])

@@ -3,7 +3,7 @@
 use Rattle.std.specs.Prelude.{Bool, true, false, not, ◌&&◌, List, [], ◌∷◌, bytes_eq}
 use Rattle.std.specs.Ordering.{int_eq}
 use Rattle.spec_bits.specs.Pattern.{Digit, Zero, One, Either}
-use Rattle.spec_expressions.specs.Expression.{Op, op_text, FunctionOf, UInt, IsZero, IsOnes, IsFeatureImplemented, Named, ExprOf, Boolean, Integer, Bits, Name, Not, Binary, Call, Set, Join, Slice, ExprsOf, no_exprs, expr}
+use Rattle.spec_expressions.specs.Expression.{Op, op_text, FunctionOf, UInt, IsZero, IsOnes, IsFeatureImplemented, Named, ExprOf, Boolean, Integer, Bits, Name, Not, Binary, Call, Set, Join, Slice, Other, ExprsOf, no_exprs, expr}
 
 abbrev pub same_truth : Bool → Bool → Bool
 same_truth true b = b
@@ -50,3 +50,19 @@ abbrev mutual
   same_facts same no_exprs no_exprs = true
   same_facts same (expr e es) (expr f fs) = same_fact same e f && same_facts same es fs
   same_facts same es fs = false
+
+-- no Other stands in an expression
+abbrev mutual
+  pub no_other : {N : Type 0} → ExprOf N → Bool
+  no_other (Not e) = no_other e
+  no_other (Binary op l r) = no_other l && no_other r
+  no_other (Call f es) = no_others es
+  no_other (Set es) = no_others es
+  no_other (Join es) = no_others es
+  no_other (Slice e high low) = no_other e && (no_other high && no_other low)
+  no_other Other = false
+  no_other e = true
+
+  pub no_others : {N : Type 0} → ExprsOf N → Bool
+  no_others no_exprs = true
+  no_others (expr e es) = no_other e && no_others es

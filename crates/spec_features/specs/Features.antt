@@ -1,5 +1,7 @@
 -- Features of the architecture: parameters, and constraints on them. A name is of some type; in a document it is its text.
 use Rattle.std.specs.Prelude.{ℕ, Bool, true, false, List, map, filter}
+use Rattle.std.specs.List.{AllByRecursion}
+use Rattle.spec_expressions.specs.Expression as expression
 use Rattle.spec_expressions.specs.Expression.{ExprOf}
 
 -- a parameter that is on or off, one that is a whole number, and one that is one of several words. Of the last two the name
@@ -36,3 +38,15 @@ booleans params = map (λ p. p.name) (filter (λ p. is_boolean p.kind) params)
 -- the most parameters
 abbrev pub param_limit : ℕ
 param_limit = 4096
+
+-- features with other names in place of theirs
+abbrev pub with_names : {M N : Type 0} → (M → N) → FeaturesOf M → FeaturesOf N
+with_names f features = record {
+  params = map (λ p. record { name = f p.name; kind = p.kind }) features.params;
+  constraints = map (expression.with_names f) features.constraints;
+}
+
+-- each name that stands in features, as that of a parameter or in a constraint
+pub record EachName {N : Type 0} (P : N → Type 0) (features : FeaturesOf N) : Type 0 where
+  pub params : AllByRecursion (λ (p : ParamOf N). P p.name) features.params
+  pub constraints : AllByRecursion (expression.EachName P) features.constraints

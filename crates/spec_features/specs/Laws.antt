@@ -2,10 +2,16 @@
 use Rattle.std.specs.Prelude.{◌≡◌, ◌↔◌, ℕ, Bool, true, List, length, ◌++◌, take, bytes_eq}
 use Rattle.spec_refutation.specs.Literals.{satisfies}
 use Rattle.spec_refutation.specs.First.{assignment, IsFirst}
+use Rattle.spec_expressions.specs.Expression.{Expr}
+use Rattle.spec_features.specs.Fact.{same_fact, no_other}
 use Rattle.spec_features.specs.Features.{FeaturesOf, Features}
 use Rattle.spec_features.specs.Theory.{theory, states}
 use Rattle.spec_features.specs.Fits.{PinOf, Fits, IsFirstFitting}
 use Rattle.spec_features.specs.Clauses.{variables, clauses, connective_clauses}
+
+-- two expressions state one fact exactly where they are equal and no Other stands in them
+abbrev pub FactsAreEqual : Type 0
+FactsAreEqual = (e f : Expr) → (same_fact bytes_eq e f ≡ true) ↔ ((e ≡ f) × (no_other e ≡ true))
 
 -- states of parameters and atoms extend in exactly one way to the auxiliaries so that the clauses of the connectives hold;
 -- with these states all clauses hold exactly where the configuration fits

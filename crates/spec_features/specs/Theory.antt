@@ -2,7 +2,7 @@
 -- parameter, and IsFeatureImplemented of that name, stand for the parameter. Any other expression under connectives is an
 -- atom, of which no more is known than that it holds or does not. Variables are the boolean parameters in order, and behind
 -- them the atoms in the order in which they first occur, left side first.
-use Rattle.std.specs.Prelude.{ℕ, ◌+◌, Bool, List, [], ◌∷◌, ◌++◌, length, Option, Some, None, position}
+use Rattle.std.specs.Prelude.{ℕ, ◌+◌, Bool, map, List, [], ◌∷◌, ◌++◌, length, Option, Some, None, position, option_and_then}
 use Rattle.spec_expressions.specs.Expression.{IsFeatureImplemented, ExprOf, Boolean, Name, Not, Binary, Call, no_exprs, expr}
 use Rattle.spec_features.specs.Features.{FeaturesOf, booleans}
 use Rattle.spec_features.specs.Fact.{same_fact}
@@ -19,11 +19,15 @@ pub record Met (N A : Type 0) : Type 0 where
   pub made : A
   pub atoms : List (ExprOf N)
 
+-- the name of the feature that an expression asks for
+abbrev pub asked_name : {N : Type 0} → ExprOf N → Option N
+asked_name (Name s) = Some s
+asked_name (Call IsFeatureImplemented (expr (Name s) no_exprs)) = Some s
+asked_name e = None
+
 -- the boolean parameter, counted from 0, that an expression stands for
 abbrev pub parameter : {N : Type 0} → (N → N → Bool) → List N → ExprOf N → Option ℕ
-parameter same names (Name s) = position (same s) names
-parameter same names (Call IsFeatureImplemented (expr (Name s) no_exprs)) = position (same s) names
-parameter same names e = None
+parameter same names e = option_and_then (λ s. position (same s) names) (asked_name e)
 
 -- an atom is the one that was met before, or the next one
 abbrev pub atom : {N : Type 0} → ℕ → ExprOf N → List (ExprOf N) → Option ℕ → Met N Formula
@@ -69,3 +73,18 @@ theory same f =
 -- how many variables a configuration gives a state
 abbrev pub states : {N : Type 0} → TheoryOf N → ℕ
 states t = length t.names + t.atoms
+
+-- both sides and the connective, or one part that is no connective
+abbrev pub parts_by : Option Connective → ℕ → ℕ → ℕ
+parts_by (Some c) left right = left + right + 1
+parts_by None left right = 1
+
+-- how many connectives and parts under connectives an expression has
+abbrev pub parts : {N : Type 0} → ExprOf N → ℕ
+parts (Not e) = parts e + 1
+parts (Binary op l r) = parts_by (connective op) (parts l) (parts r)
+parts e = 1
+
+-- a theory with other names in place of its own
+abbrev pub theory_with_names : {M N : Type 0} → (M → N) → TheoryOf M → TheoryOf N
+theory_with_names f t = record { names = map f t.names; atoms = t.atoms; constraints = t.constraints }

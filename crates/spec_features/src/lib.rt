@@ -2,7 +2,12 @@
 //! `specs/`, and laws about them.
 #![tactic(auto)]
 
-ghost use Rattle.spec_features.specs.Laws.{EachExtends, FirstsAreFirst};
+ghost use Rattle.spec_features.specs.Laws.{EachExtends, FactsAreEqual, FirstsAreFirst};
+
+/// A law on atoms: two expressions state one fact exactly where they are equal and no Other stands in them.
+pub fn facts_are_equal()
+    ensures { FactsAreEqual }
+{}
 
 /// A law on clauses: states of parameters and atoms extend to the auxiliaries in exactly one way so that the clauses of the
 /// connectives hold. With that extension all clauses hold exactly where the configuration fits.

@@ -23,9 +23,9 @@ returns-in_ok-config-in-Model-clause-exact c =
     let first = subst (Solves c.in_ok-cnf.cnf.0 c.in_ok-cnf.cnf.1) c.in-Model.is c.in_ok-states.ensures.solves in
     let t = c.args.model.now in
     let chosen = first_chosen t c.args.pins.now c.in_ok-cnf.cnf c.in-Model.states.items c.in_ok-config-in-Model.config c.cnf.ensures.formed c.in_ok-cnf.ensures.cnf first
-        c.in_ok-config-in-Model.ensures.names
-        (c.in_ok-config-in-Model.ensures.states ∙ ap (take (length t.names)) c.deref.ensures.value)
-        (c.in_ok-config-in-Model.ensures.atoms ∙ ap (λ all. take t.atoms (drop (length t.names) all)) c.deref.ensures.value) in
+    c.in_ok-config-in-Model.ensures.names
+    (c.in_ok-config-in-Model.ensures.states ∙ ap (take (length t.names)) c.deref.ensures.value)
+    (c.in_ok-config-in-Model.ensures.atoms ∙ ap (λ all. take t.atoms (drop (length t.names) all)) c.deref.ensures.value) in
     (λ h. absurd h, λ none. first_fits t c.args.pins.now c.in_ok-config-in-Model.config chosen none)
 
 pub returns-in-Refuted-clause-outcome : goal.returns-in-Refuted-clause-outcome

@@ -1,0 +1,70 @@
+//! Features without constraints: the first configuration, the clauses of pins that clash, and a pin of no feature.
+
+use crate::{Model, ModelFault, Outcome, Pin, configure};
+use feat_proof::print_log;
+use mrs_names::NameId;
+use mrs_schema::Features;
+use std::alloc::Global;
+use std::process::Abort;
+use std::test::Fail;
+
+const ON: Pin = Pin {
+    name: NameId(4),
+    on: true,
+};
+
+const OFF: Pin = Pin {
+    name: NameId(4),
+    on: false,
+};
+
+const UNKNOWN: Pin = Pin {
+    name: NameId(5),
+    on: true,
+};
+
+/// A model of two features, numbers 4 and 7.
+fn two_features(alloc: Global) -> Result<Model, Fail> {
+    let names = [NameId(4), NameId(7), NameId(4)];
+    let features = Features::of_names(alloc, &names)?;
+    Ok(Model::new(alloc, &features)?)
+}
+
+fn assert_chosen(
+    rt: &impl Abort,
+    alloc: Global,
+    model: &Model,
+    pin: Pin,
+    first: bool,
+) -> Result<(), Fail> {
+    let Outcome::Chosen(config) = configure(alloc, model, &[pin])? else {
+        return Err(Fail::from("a configuration fits"));
+    };
+    assert_eq!(rt; config.state(NameId(4)), Some(first));
+    assert_eq!(rt; config.state(NameId(7)), Some(true), "on comes first");
+    assert_eq!(rt; config.state(NameId(5)), None);
+    assert_eq!(rt; config.atom(0), None);
+    Ok(())
+}
+
+#[test]
+fn features_are_configured(rt: HostRuntime) -> Result<(), Fail> {
+    let alloc = rt.alloc();
+    let model = two_features(alloc)?;
+    assert_eq!(&rt; model.atoms(), 0);
+    assert_chosen(&rt, alloc, &model, ON, true)?;
+    assert_chosen(&rt, alloc, &model, OFF, false)?;
+    let Outcome::Refuted(cnf, log) = configure(alloc, &model, &[ON, OFF])? else {
+        return Err(Fail::from("the pins clash"));
+    };
+    let text = print_log(alloc, &cnf, &log)?;
+    assert!(&rt;
+        text.starts_with(b"p 2 2 "),
+        "two variables and two clauses"
+    );
+    assert_eq!(&rt;
+        configure(alloc, &model, &[ON, UNKNOWN]).err(),
+        Some(ModelFault::UnknownFeature { pin: 1 })
+    );
+    Ok(())
+}
