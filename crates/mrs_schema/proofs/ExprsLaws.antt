@@ -3,7 +3,7 @@ use Rattle.std.proofs.Common.{◌≡◌, ◌∙◌, sym, ap, subst, refl, ℕ, �
 use Rattle.std.specs.Prelude.{option_and_then, option_map, slice_range}
 use Rattle.std.proofs.Math.Seq.{take-length}
 use Rattle.std.proofs.lemmas.List.{get_or_append_left, get_or-map, map_push, length-map, drop-append-le, drop_all}
-use Rattle.std.proofs.lemmas.List.Elements.{All-nil, All-head, All-tail, All-push}
+use Rattle.std.proofs.lemmas.List.Elements.{All-head, All-tail, All-push}
 use Rattle.serde_json.specs.Data.{Data, null, boolean, number, string, array, object, no_items, item, depth}
 use Rattle.serde_json.specs.Find.{get}
 use Rattle.serde_json.specs.View.{view, items_view}
@@ -18,11 +18,11 @@ use Rattle.spec_walk.proofs.WalkLaws.{gives-next, then-assoc}
 use Rattle.spec_walk.proofs.DescendLaws.{then-same}
 use Rattle.spec_expressions.specs.Expression as e
 use Rattle.spec_expressions.specs.Expression.{Expr, ExprsOf, Op, Function, exprs_of, function_named}
-use Rattle.spec_expressions.specs.Shape.{Shape, Plain, AName, ANot, ABinary, ACall, ASet, AJoin, AnIndex, ASlice, shape_of, the_one}
+use Rattle.spec_expressions.specs.Shape.{Shape, ANot, ABinary, ACall, ASet, AJoin, AnIndex, ASlice, shape_of, the_one}
 use Rattle.spec_expressions.specs.Reading.{Wanted, Itself, Its, counted, function_at, sole, argument, reader, expression}
 use Rattle.spec_expressions.proofs.FormLaws.{expression-formed, member-formed}
 use Rattle.mrs_names.specs.Texts.{IsExtended}
-use Rattle.mrs_names.proofs.PlaceLaws.{IsExtended-refl, IsExtended-trans}
+use Rattle.mrs_names.proofs.PlaceLaws.{IsExtended-trans}
 use Rattle.mrs_arena.specs.Expressions.{expr_at, list_in, with_list}
 use Rattle.mrs_arena.specs.declared.expr.ExprList.{ExprList}
 use Rattle.mrs_arena.specs.declared.expr_id.ExprId.{ExprId}
@@ -33,7 +33,7 @@ use Rattle.mrs_walk.specs.declared.fault.ReadFault.{ReadFault}
 use Rattle.mrs_walk.specs.declared.fault.ReadFault.TheVariants.{Schema, NoMemory}
 use Rattle.mrs_walk.proofs.AnswerLaws.{Fails-then, Fails-same, Puts-same, Puts-then, Puts-last}
 use Rattle.mrs_walk.proofs.DepthLaws.{needed_shallower}
-use Rattle.mrs_walk.proofs.EachLaws.{EachRead, EachRead-none, EachRead-next, EachRead-fails, EachRead-all}
+use Rattle.mrs_walk.proofs.EachLaws.{EachRead, EachRead-next, EachRead-fails, EachRead-all}
 use Rattle.mrs_schema.specs.Drafted.{Drafted, counts, nothing}
 use Rattle.mrs_schema.specs.ExprsRead.{formed_at, part, parts, Grows, IsRead, AreRead, IsListRead}
 

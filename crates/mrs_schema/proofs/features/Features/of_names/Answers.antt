@@ -1,4 +1,4 @@
-use Rattle.std.proofs.Common.{sym, ◌∙◌, ap, length, [], arith}
+use Rattle.std.proofs.Common.{sym, ◌∙◌, arith}
 use Rattle.mrs_schema.proofs.ParamLaws.{AreKept-none, AreKept-held, AreKept-new, features_made}
 use Rattle.mrs_schema.proofs.features.Features.of_names.Goals as goal
 
