@@ -1,16 +1,20 @@
 -- Lists of constraints, element by element.
-use Rattle.std.proofs.Common.{◌≡◌, ◌∙◌, ap, ℕ, ◌<◌, ◌≤◌, List, [], length, get_or}
+use Rattle.std.proofs.Common.{◌≡◌, ◌∙◌, ap, ℕ, ◌<◌, ◌≤◌, List, [], length, get_or, Some, Ok, Err, Result, unwrap_or, codes}
 use Rattle.serde_json.specs.View.{view, items_view}
 use Rattle.serde_json.specs.declared.value.Value.{Value}
 use Rattle.spec_walk.specs.Pointer.{element}
 use Rattle.spec_walk.specs.Walk.{Walk, Done, ◌>>>◌, gives}
-use Rattle.spec_walk.specs.Spot.{Spot, spot, elements, each}
+use Rattle.spec_walk.specs.Spot.{Spot, spot, member_at, elements, each}
 use Rattle.spec_walk.specs.Descend.{at_spot, elements_at}
+use Rattle.spec_walk.specs.Limits.{Counts}
+use Rattle.spec_walk.proofs.WalkLaws.{gives-next}
+use Rattle.spec_expressions.specs.Expression.{Expr}
+use Rattle.spec_features.specs.Walk.{constraints}
 use Rattle.spec_expressions.specs.Reading.{Itself, reader, expression}
-use Rattle.mrs_walk.specs.Gives.{Ends, Fails}
+use Rattle.mrs_walk.specs.Gives.{Ends, Fails, Puts}
 use Rattle.mrs_walk.specs.declared.fault.ReadFault.{ReadFault}
 use Rattle.mrs_walk.proofs.EachLaws.{EachRead-all, EachRead-fails}
-use Rattle.mrs_walk.proofs.AnswerLaws.{Fails-same}
+use Rattle.mrs_walk.proofs.AnswerLaws.{Fails-then, Fails-same, optional-there}
 use Rattle.mrs_schema.specs.Drafted.{Drafted, counts}
 use Rattle.mrs_schema.specs.ExprsRead.{AreRead}
 use Rattle.mrs_schema.proofs.ExprsLaws.{PartsRead}
@@ -30,3 +34,19 @@ constraints_end list old now ids i vs is r past = record {
   walked = ap (λ w. gives w (counts old)) (array_is list vs is) ∙ EachRead-all r.each past;
   stands = r.read;
 }
+
+-- a list that is there is read
+pub constraints_there : {T : Type 0} (r : Result T ReadFault) (P : List Expr → T → Type 0) (here there : Spot) (old new : Counts) → Some there ≡ member_at (codes "constraints") here
+    → Puts r (elements_at reader Itself there) old new P → Puts r (constraints here) old new P
+constraints_there (Ok x) P here there old new is p = record {
+  value = p.value;
+  walked =
+      ap (λ w. gives (w >>> λ found. Done (unwrap_or found [])) old) (optional-there (codes "constraints") (elements_at reader Itself) here there is)
+      ∙ gives-next (elements_at reader Itself there >>> λ es. Done (Some es)) (λ found. Done (unwrap_or found [])) old new (Some p.value)
+      (gives-next (elements_at reader Itself there) (λ es. Done (Some es)) old new p.value p.walked);
+  stands = p.stands;
+}
+constraints_there (Err f) P here there old new is p =
+    Fails-same f _ _ (ap (λ w. gives (w >>> λ found. Done (unwrap_or found [])) old) (optional-there (codes "constraints") (elements_at reader Itself) here there is))
+    (Fails-then f (elements_at reader Itself there >>> λ es. Done (Some es)) (λ found. Done (unwrap_or found [])) old
+    (Fails-then f (elements_at reader Itself there) (λ es. Done (Some es)) old p))
