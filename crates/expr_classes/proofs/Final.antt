@@ -1,6 +1,6 @@
 -- Classes that stand for the expressions tell which of them state one fact.
-use Rattle.std.proofs.Common.{◌≡◌, ◌==◌, ℕ, suc, ◌+◌, ◌<◌, ◌≤◌, Bool, true, false, List, [], ◌∷◌, ◌++◌, length, Option, Some, None, unwrap_or, slice_get, nat_eq, IfSome, refl, sym, ap, ◌∙◌, subst, inl, inr, ⊎_elim, ◌⊎◌, zero, arith}
-use Rattle.std.proofs.lemmas.Bool.{both_ways, false_from_ne_true, false≢true}
+use Rattle.std.proofs.Common.{◌≡◌, ◌==◌, ℕ, suc, ◌<◌, ◌≤◌, Bool, true, false, List, [], ◌∷◌, ◌++◌, length, Option, Some, None, unwrap_or, slice_get, nat_eq, IfSome, refl, sym, ap, ◌∙◌, subst, inl, inr, ⊎_elim, ◌⊎◌, zero, arith}
+use Rattle.std.proofs.lemmas.Bool.{both_ways, false_from_ne_true}
 use Rattle.std.proofs.lemmas.Bool.Decides.{Decides-eqb}
 use Rattle.std.proofs.lemmas.Option.{slice_get_within}
 use Rattle.std.proofs.lemmas.List.{length-append}

@@ -1,15 +1,11 @@
 -- Terms stay what they are while keys grow.
-use Rattle.std.proofs.Common.{◌≡◌, ◌⊎◌, ℕ, zero, suc, ◌+◌, ◌<◌, ◌≤◌, Bool, true, false, cond, ◌||◌, List, [], ◌∷◌, ◌++◌, length, Some, slice_get, refl, sym, ap, ◌∙◌, subst, inl, inr, arith, append-nil, append_assoc}
-use Rattle.std.specs.List.{list_any}
-use Rattle.std.proofs.lemmas.Bool.{both_ways, or_parts, or_from, cases_lt}
-use Rattle.std.proofs.lemmas.Option.{slice_get_within, slice_get_past}
+use Rattle.std.proofs.Common.{◌≡◌, ℕ, zero, suc, ◌+◌, List, [], ◌∷◌, ◌++◌, length, Some, slice_get, refl, sym, ap, ◌∙◌, subst, inl, inr, arith, append-nil, append_assoc}
+use Rattle.std.proofs.lemmas.Option.{slice_get_within}
 use Rattle.std.proofs.lemmas.List.{length-append}
 use Rattle.mrs_names.proofs.ListLaws.{slice_get-append, slice_get-append_end}
 use Rattle.expr_classes.specs.declared.key.Key.{Key}
 use Rattle.expr_classes.specs.declared.key.Key.TheVariants as key
-use Rattle.expr_classes.specs.Terms.{Term, expr_in, list_in, term_of, terms_behind, IsExpr, IsExprs, HasTerms, HaveTerms, AreApart, AreKeys}
-use Rattle.expr_classes.proofs.Keys.{key_eq, key_refl}
-use Rattle.expr_classes.proofs.Injective.{injective}
+use Rattle.expr_classes.specs.Terms.{Term, term_of, terms_behind, IsExpr, IsExprs, HasTerms, HaveTerms}
 
 -- a term keeps its number
 pub stays : (terms more : List Term) (p : ℕ) (x : Term) → slice_get terms p ≡ Some x → slice_get (terms ++ more) p ≡ Some x

@@ -3,7 +3,6 @@ use Rattle.std.proofs.Common.{◌≡◌, ℕ, List, Some, slice_get, refl, sym, 
 use Rattle.bit_pattern.specs.Digits.{digits_below}
 use Rattle.bit_pattern.specs.Views.{digits_of}
 use Rattle.bit_pattern.proofs.ValueLaws.{SameNumbers, SameNumbers-from}
-use Rattle.spec_expressions.specs.Expression as expression
 use Rattle.mrs_arena.specs.declared.op.Op.{Op}
 use Rattle.mrs_arena.specs.declared.op.Op.TheVariants as op
 use Rattle.mrs_arena.specs.declared.func.Func.{Func}

@@ -1,16 +1,16 @@
 -- A key that is put into a table.
 use Rattle.std.proofs.Common.{◌≡◌, ◌⊎◌, ℕ, zero, suc, ◌+◌, ◌<◌, ◌≤◌, Bool, true, false, cond, ◌||◌, List, [], ◌∷◌, ◌++◌, length, Some, slice_get, refl, sym, ap, ◌∙◌, subst, inl, inr, ⊎_elim, arith, append-nil}
 use Rattle.std.specs.List.{list_any}
-use Rattle.std.proofs.lemmas.Bool.{both_ways, or_parts, cases_lt}
+use Rattle.std.proofs.lemmas.Bool.{both_ways}
 use Rattle.std.proofs.lemmas.Option.{slice_get_within}
 use Rattle.std.proofs.lemmas.List.{length-append}
 use Rattle.mrs_names.proofs.ListLaws.{slice_get-append, slice_get-append_end}
 use Rattle.indexmap.specs.IndexSet.{insert_key}
 use Rattle.expr_classes.specs.declared.key.Key.{Key}
-use Rattle.expr_classes.specs.Terms.{Term, term_of, terms_behind, HasTerms, HaveTerms, AreApart, AreKeys}
+use Rattle.expr_classes.specs.Terms.{Term, term_of, terms_behind, HasTerms, AreApart, AreKeys}
 use Rattle.expr_classes.proofs.Keys.{key_eq, key_refl, same_key}
 use Rattle.expr_classes.proofs.Injective.{injective}
-use Rattle.expr_classes.proofs.Growing.{term_stays, terms_last, parts_last, terms_length, StandsAt, key_at}
+use Rattle.expr_classes.proofs.Growing.{term_stays, terms_last, parts_last, terms_length, key_at}
 
 some_at : {X : Type 0} (xs : List X) (p : ℕ) → p < length xs → (x : X) × (slice_get xs p ≡ Some x)
 some_at [] p lt = absurd (omega (arith, lt))

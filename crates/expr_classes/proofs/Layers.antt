@@ -1,9 +1,9 @@
 -- The key of an expression stands for it.
-use Rattle.std.proofs.Common.{◌≡◌, ℕ, ◌<◌, Bool, true, false, ◌&&◌, List, length, Option, Some, None, option_map, unwrap_or, slice_get, refl, sym, ap, ◌∙◌, subst, inl, inr}
+use Rattle.std.proofs.Common.{◌≡◌, ℕ, true, false, ◌&&◌, List, length, Option, Some, None, option_map, unwrap_or, slice_get, refl, sym, ap, ◌∙◌, subst, inl}
 use Rattle.std.proofs.lemmas.Bool.{and_from, and_left, and_right}
 use Rattle.std.proofs.lemmas.Option.{slice_get_within}
-use Rattle.spec_expressions.specs.Expression.{ExprOf, ExprsOf, Not, Binary, Call, Set, Join, Slice, expr}
-use Rattle.spec_features.specs.Fact.{no_other, no_others}
+use Rattle.spec_expressions.specs.Expression.{ExprOf, Not, Binary, Call, Set, Join, Slice}
+use Rattle.spec_features.specs.Fact.{no_other}
 use Rattle.mrs_arena.specs.Expressions.{expr_at, list_of, layer, Below, op_of, function_by, itself}
 use Rattle.mrs_arena.specs.declared.expr_id.ExprId.{ExprId}
 use Rattle.mrs_arena.specs.declared.expr_ref.ExprRef.{ExprRef}
@@ -11,7 +11,7 @@ use Rattle.mrs_arena.specs.declared.expr_ref.ExprRef.TheVariants as ref
 use Rattle.mrs_arena.specs.declared.op.Op.{Op}
 use Rattle.expr_classes.specs.declared.key.Key.{Key}
 use Rattle.expr_classes.specs.declared.key.Key.TheVariants as key
-use Rattle.expr_classes.specs.Terms.{Term, expr_in, list_in, term_of, IsPattern, HasTerms}
+use Rattle.expr_classes.specs.Terms.{Term, expr_in, list_in, term_of, HasTerms}
 use Rattle.expr_classes.specs.Classes.{class_in, Stands, ListStands, AllStand, HaveExprs, Grown, of_two, of_three, key_of, parts_of}
 use Rattle.expr_classes.proofs.Lists.{grown_get}
 

@@ -1,15 +1,14 @@
 -- Classes of lists.
-use Rattle.std.proofs.Common.{◌≡◌, ℕ, zero, suc, ◌+◌, ◌-◌, ◌<◌, ◌≤◌, Bool, true, false, ◌&&◌, List, [], ◌∷◌, ◌++◌, length, drop, get_or, map, Option, Some, None, unwrap_or, slice_get, refl, sym, ap, ◌∙◌, subst, inl, inr, arith, append-nil, append_assoc, add-one}
-use Rattle.std.proofs.lemmas.Bool.{and_from, false≢true}
-use Rattle.std.proofs.lemmas.Option.{slice_get_within}
-use Rattle.spec_expressions.specs.Expression.{ExprOf, ExprsOf, no_exprs, expr, exprs_of}
+use Rattle.std.proofs.Common.{◌≡◌, ℕ, zero, suc, ◌+◌, ◌<◌, Bool, true, false, ◌&&◌, List, [], ◌∷◌, ◌++◌, length, drop, Option, Some, None, slice_get, refl, sym, ap, ◌∙◌, subst, inl, inr, arith, append_assoc}
+use Rattle.std.proofs.lemmas.Bool.{and_from}
+use Rattle.spec_expressions.specs.Expression.{ExprOf, no_exprs, expr}
 use Rattle.spec_features.specs.Fact.{no_other, no_others}
 use Rattle.mrs_arena.specs.Expressions.{expr_at, list_of}
 use Rattle.mrs_arena.specs.declared.expr_id.ExprId.{ExprId}
 use Rattle.expr_classes.specs.declared.key.Key.TheVariants as key
-use Rattle.expr_classes.specs.Terms.{Term, expr_in, list_in, term_of, IsExpr, IsExprs}
+use Rattle.expr_classes.specs.Terms.{Term, expr_in, list_in, term_of}
 use Rattle.expr_classes.specs.Classes.{class_in, Stands, ListStands, AllStand, HaveExprs, Grown, ListAt}
-use Rattle.expr_classes.proofs.Growing.{stays, expr_stays}
+use Rattle.expr_classes.proofs.Growing.{stays}
 
 pub grown_get : (old new : List Term) (p : ℕ) (x : Term) → Grown old new → slice_get old p ≡ Some x → slice_get new p ≡ Some x
 grown_get old new p x grown e = ap (λ ts. slice_get ts p) grown.1 ∙ stays old grown.0 p x e

@@ -1,5 +1,5 @@
 -- Classes of the expressions of an arena.
-use Rattle.std.specs.Prelude.{◌≡◌, ◌==◌, ℕ, ◌<◌, ◌++◌, Bool, true, false, nat_eq, List, [], length, Option, Some, None, option_map, option_and_then, slice_get, unwrap_or, ⊤}
+use Rattle.std.specs.Prelude.{◌≡◌, ◌==◌, ℕ, ◌<◌, ◌++◌, Bool, true, false, nat_eq, List, [], length, Option, Some, None, option_map, slice_get, unwrap_or}
 use Rattle.std.proofs.Common.{inl, inr}
 use Rattle.spec_expressions.specs.Expression.{ExprOf, ExprsOf}
 use Rattle.spec_features.specs.Fact.{same_fact, no_other, no_others}

@@ -1,5 +1,5 @@
 -- What keys stand for: expressions and lists of them.
-use Rattle.std.specs.Prelude.{◌≡◌, ℕ, Bool, List, [], ◌∷◌, ◌++◌, Option, Some, slice_get, ◌⊎◌, ⊤}
+use Rattle.std.specs.Prelude.{◌≡◌, ℕ, List, [], ◌∷◌, ◌++◌, Option, Some, slice_get, ◌⊎◌, ⊤}
 use Rattle.std.proofs.Common.{inl, inr, refl}
 use Rattle.std.specs.Coded.{Coded, code_by, coded_ℕ, coded⊎}
 use Rattle.spec_expressions.specs.Expression.{ExprOf, Boolean, Integer, Bits, Name, Not, Binary, Call, Set, Join, Slice, Other, ExprsOf, no_exprs, expr}

@@ -1,11 +1,9 @@
 -- A leaf is a parameter or an atom, by the numbers that are kept.
-use Rattle.std.proofs.Common.{◌≡◌, ℕ, ◌+◌, ◌<◌, ◌≤◌, List, [], ◌∷◌, ◌++◌, length, map, Option, Some, None, unwrap_or, IfSome, nat_eq, refl, sym, ap, ◌∙◌, subst, arith}
-use Rattle.std.specs.Prelude.{position}
+use Rattle.std.proofs.Common.{◌≡◌, ℕ, ◌+◌, ◌<◌, List, [], ◌∷◌, length, Option, Some, None, unwrap_or, IfSome, nat_eq, refl, sym, ap, ◌∙◌, subst, arith}
 use Rattle.std.proofs.lemmas.List.{length-map, map-append}
 use Rattle.spec_expressions.specs.Expression.{ExprOf}
 use Rattle.spec_features.specs.Formula as spec
-use Rattle.spec_features.specs.Fact.{same_fact}
-use Rattle.spec_features.specs.Theory.{Met, atom, parameter, parameter_or_atom, leaf}
+use Rattle.spec_features.specs.Theory.{atom, parameter, parameter_or_atom, leaf}
 use Rattle.mrs_names.specs.declared.name_id.NameId.{NameId}
 use Rattle.mrs_arena.specs.Expressions.{expr_at}
 use Rattle.mrs_arena.specs.declared.expr_id.ExprId.{ExprId}

@@ -1,13 +1,12 @@
 -- A model of features is their theory.
-use Rattle.std.proofs.Common.{◌≡◌, ◌≢◌, ◌==◌, ℕ, zero, suc, ◌+◌, ◌<◌, ◌≤◌, Bool, true, false, cond, List, [], ◌∷◌, length, map, get_or, Some, slice_get, nat_eq, refl, sym, ap, ◌∙◌, subst, arith}
+use Rattle.std.proofs.Common.{◌≡◌, ◌≢◌, ℕ, zero, suc, ◌<◌, ◌≤◌, Bool, true, false, cond, List, [], ◌∷◌, length, map, get_or, nat_eq, sym, ap, ◌∙◌, subst, arith}
 use Rattle.std.specs.Prelude.{AllPairs, filter, sum_by}
 use Rattle.std.specs.List.{IsDistinct}
 use Rattle.std.proofs.lemmas.Bool.Decides.{Decides-eqb}
 use Rattle.std.proofs.lemmas.List.{length-map, get_or-map}
 use Rattle.std.proofs.lemmas.List.Kept.{AllPairs-filter}
 use Rattle.std.proofs.lemmas.Map.Made.{IsDistinct-from_AllPairs}
-use Rattle.spec_expressions.specs.Expression.{ExprOf}
-use Rattle.spec_features.specs.Features.{ParamOf, FeaturesOf, is_boolean, booleans}
+use Rattle.spec_features.specs.Features.{ParamOf, is_boolean, booleans}
 use Rattle.spec_features.specs.Theory.{TheoryOf, theory, formulas, parts}
 use Rattle.spec_features.proofs.Uses.{theory_uses, formulas_few}
 use Rattle.mrs_names.specs.declared.name_id.NameId.{NameId}

@@ -5,7 +5,6 @@ use Rattle.std.proofs.lemmas.List.{length-take}
 use Rattle.std.proofs.Math.Seq.{take-add}
 use Rattle.spec_refutation.specs.Literals.{satisfies}
 use Rattle.spec_refutation.specs.Derivation.{Step}
-use Rattle.spec_refutation.specs.Refutation.{Refutes}
 use Rattle.spec_refutation.specs.Reading.{IsClause, IsHint, IsStep, IsLog}
 use Rattle.spec_refutation.specs.First.{IsFirst, IsRefutation, assignment}
 use Rattle.spec_refutation.proofs.Sound.{refutes_sound}

@@ -1,7 +1,6 @@
 -- Variables of a formula's parts stay within the numbers of literals.
 use Rattle.std.proofs.Common.{◌≡◌, ℕ, ◌+◌, ◌<◌, ◌≤◌, ℤ, List, sym, ap, subst, arith}
 use Rattle.spec_features.specs.Formula.{Connective, Formula, Joined, size}
-use Rattle.spec_features.specs.Clauses.{encoded}
 use Rattle.spec_features.proofs.Encoding.{uses_wider, grows}
 use Rattle.spec_features.proofs.Sizes.{last_few}
 use Rattle.feat_model.specs.Encodes.{HasRoom, Encodes}

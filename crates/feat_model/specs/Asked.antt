@@ -1,6 +1,6 @@
 -- The feature that an expression asks for, in steps.
 use Rattle.std.specs.Prelude.{ℕ, Bool, true, false, Option, Some, None}
-use Rattle.spec_expressions.specs.Expression.{FunctionOf, UInt, IsZero, IsOnes, IsFeatureImplemented, Named, ExprOf, Name, ExprsOf, no_exprs, expr}
+use Rattle.spec_expressions.specs.Expression.{FunctionOf, IsFeatureImplemented, ExprOf, Name, ExprsOf, no_exprs, expr}
 
 abbrev pub plain_name : ExprOf ℕ → Option ℕ
 plain_name (Name s) = Some s

@@ -1,5 +1,5 @@
 -- Atoms that were found, and the number of each class.
-use Rattle.std.specs.Prelude.{◌≡◌, ℕ, ◌<◌, Bool, nat_eq, List, [], ◌∷◌, ◌++◌, map, length, All, Option, Some, None, position, slice_get, unwrap_or, option_and_then}
+use Rattle.std.specs.Prelude.{◌≡◌, ℕ, ◌<◌, List, [], ◌∷◌, ◌++◌, map, length, All, Option, Some, None, position, slice_get, unwrap_or, option_and_then}
 use Rattle.spec_expressions.specs.Expression.{ExprOf}
 use Rattle.mrs_arena.specs.Expressions.{expr_at}
 use Rattle.mrs_arena.specs.declared.expr_id.ExprId.{ExprId}

@@ -14,7 +14,7 @@ use Rattle.mrs_schema.specs.declared.features.Param.{Param}
 use Rattle.expr_classes.specs.Classes.{Numbered, AreClasses, AreBelow}
 use Rattle.feat_model.specs.declared.formula.Formula.{Formula}
 use Rattle.feat_model.specs.Views.{formula_of}
-use Rattle.feat_model.specs.Found.{atoms_of, AreNumbered}
+use Rattle.feat_model.specs.Found.{atoms_of}
 
 abbrev pub numbers_of : List NameId → List ℕ
 numbers_of names = map (λ name. name.0) names

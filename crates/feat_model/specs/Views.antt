@@ -1,5 +1,4 @@
 -- What the formulas of this crate stand for.
-use Rattle.std.specs.Prelude.{ℕ}
 use Rattle.spec_features.specs.Formula as formulas
 use Rattle.feat_model.specs.declared.connective.Connective.{Connective}
 use Rattle.feat_model.specs.declared.connective.Connective.TheVariants.{Conjunction, Disjunction, Implication, Equivalence}

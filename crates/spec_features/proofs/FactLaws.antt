@@ -1,14 +1,13 @@
 -- When two expressions state one fact.
-use Rattle.std.proofs.Common.{◌≡◌, ◌↔◌, ℕ, Bool, true, false, not, ◌&&◌, List, [], ◌∷◌, Option, Some, refl, sym, ap, ◌∙◌}
+use Rattle.std.proofs.Common.{◌≡◌, Bool, true, ◌&&◌, List, [], ◌∷◌, Some, refl, sym, ap, ◌∙◌}
 use Rattle.std.specs.Prelude.{bytes_eq}
 use Rattle.std.specs.Bool.{Decides}
-use Rattle.std.specs.Ordering.{int_eq}
 use Rattle.std.proofs.lemmas.Bool.{false≢true, and_parts, and_from}
 use Rattle.std.proofs.lemmas.Bool.Decides.{Decides-int_eq}
 use Rattle.std.proofs.lemmas.Slice.Eq.{bytes_eq-Decides}
 use Rattle.spec_bits.specs.Pattern.{Digit, Zero, One, Either}
 use Rattle.spec_expressions.specs.Expression.{Op, And, Or, Implies, Iff, Eq, Ne, Lt, Le, Gt, Ge, Member, op_text, op_named, FunctionOf, UInt, IsZero, IsOnes, IsFeatureImplemented, Named, ExprOf, Boolean, Integer, Bits, Name, Not, Binary, Call, Set, Join, Slice, Other, ExprsOf, no_exprs, expr}
-use Rattle.spec_features.specs.Fact.{same_truth, same_digit, same_digits, same_op, same_function, same_fact, same_facts, no_other, no_others}
+use Rattle.spec_features.specs.Fact.{same_digit, same_digits, same_op, same_function, same_fact, same_facts, no_other, no_others}
 use Rattle.spec_features.specs.Laws.{FactsAreEqual}
 use Rattle.spec_features.proofs.Encoding.{same_is, same_refl}
 

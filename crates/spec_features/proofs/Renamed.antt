@@ -1,10 +1,10 @@
 -- What features say does not rest on what their names are, as long as different names stay different.
-use Rattle.std.proofs.Common.{◌≡◌, ℕ, ◌+◌, Bool, true, false, cond, not, ◌&&◌, List, [], ◌∷◌, ◌++◌, length, map, filter, Option, Some, None, option_and_then, option_map, refl, sym, ap, ◌∙◌, subst}
+use Rattle.std.proofs.Common.{◌≡◌, ℕ, ◌+◌, Bool, true, false, cond, ◌&&◌, List, [], ◌∷◌, ◌++◌, length, map, filter, Option, Some, None, option_and_then, option_map, refl, sym, ap, ◌∙◌, subst}
 use Rattle.std.specs.Prelude.{position}
 use Rattle.std.specs.List.{AllByRecursion, position_from, list_all, filter_map, cons_option}
 use Rattle.std.proofs.lemmas.Iterator.Adapters.{position_from-zero}
 use Rattle.std.proofs.lemmas.List.{length-map, map-append}
-use Rattle.spec_expressions.specs.Expression.{FunctionOf, UInt, IsZero, IsOnes, IsFeatureImplemented, Named, ExprOf, Boolean, Integer, Bits, Name, Not, Binary, Call, Set, Join, Slice, Other, ExprsOf, no_exprs, expr, EachName, EachNameOfAll, FunctionHasNames, function_with_names, with_names, all_with_names}
+use Rattle.spec_expressions.specs.Expression.{FunctionOf, UInt, IsZero, IsOnes, IsFeatureImplemented, Named, ExprOf, Boolean, Integer, Bits, Name, Not, Binary, Call, Set, Join, Slice, ExprsOf, no_exprs, expr, EachName, EachNameOfAll, FunctionHasNames, function_with_names, with_names, all_with_names}
 use Rattle.spec_features.specs.Features as features
 use Rattle.spec_features.specs.Features.{ParamOf, FeaturesOf, is_boolean, booleans}
 use Rattle.spec_features.specs.Fact.{same_op, same_function, same_fact, same_facts}

@@ -1,10 +1,10 @@
 -- How many variables and clauses a formula takes.
-use Rattle.std.proofs.Common.{◌≡◌, ℕ, ◌+◌, ◌*◌, ◌≤◌, ℤ, pos, List, [], ◌∷◌, ◌++◌, length, refl, arith}
-use Rattle.std.specs.Prelude.{flat_map, sum_by}
+use Rattle.std.proofs.Common.{ℕ, ◌+◌, ◌*◌, ◌≤◌, ℤ, pos, List, [], ◌∷◌, ◌++◌, length, arith}
+use Rattle.std.specs.Prelude.{sum_by}
 use Rattle.std.proofs.lemmas.List.{length-append}
 use Rattle.std.proofs.lemmas.List.Sums.{sum_by-cons}
 use Rattle.spec_features.specs.Formula.{Connective, Conjunction, Disjunction, Implication, Equivalence, Formula, Constant, Variable, Negation, Joined, size}
-use Rattle.spec_features.specs.Clauses.{table, encoded, all_encoded, last_of, constraint_clauses, constraints_from}
+use Rattle.spec_features.specs.Clauses.{table, encoded, last_of, constraint_clauses, constraints_from}
 
 -- at most one variable and four clauses for each part
 pub last_few : (last : ℕ) (f : Formula) → (encoded last f).last ≤ last + size f

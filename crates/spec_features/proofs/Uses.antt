@@ -5,7 +5,7 @@ use Rattle.std.specs.List.{AllByRecursion}
 use Rattle.std.proofs.lemmas.List.{length-append}
 use Rattle.std.proofs.lemmas.List.Quantifiers.{position-Some}
 use Rattle.std.proofs.lemmas.List.Sums.{sum_by-cons}
-use Rattle.spec_expressions.specs.Expression.{IsFeatureImplemented, ExprOf, Boolean, Name, Not, Binary, Call, no_exprs, expr}
+use Rattle.spec_expressions.specs.Expression.{ExprOf, Boolean, Not, Binary}
 use Rattle.spec_features.specs.Features.{FeaturesOf, booleans}
 use Rattle.spec_features.specs.Fact.{same_fact}
 use Rattle.spec_features.specs.Formula.{Connective, connective, Formula, Uses, size}

@@ -1,4 +1,4 @@
-use Rattle.std.proofs.Common.{ap, sym, subst, length, ◌∙◌, ◌∷◌, [], arith, ℕ, List, Option}
+use Rattle.std.proofs.Common.{ap, sym, subst, length, ◌∷◌, [], arith, ℕ, List, Option}
 use Rattle.std.proofs.lemmas.List.{length-append}
 use Rattle.expr_classes.specs.Classes.{Numbered, AreClasses, AllStand, Stands}
 use Rattle.mrs_arena.specs.Expressions.{expr_at}

@@ -1,4 +1,4 @@
-use Rattle.std.proofs.Common.{◌∙◌, ap, sym, subst, arith, length, take, drop}
+use Rattle.std.proofs.Common.{◌∙◌, ap, subst, arith, length, take, drop}
 use Rattle.feat_solve.specs.Answers.{Solves}
 use Rattle.feat_model.proofs.Outcomes.{first_reaches, first_chosen, first_fits, none_fits, refutation_written}
 use Rattle.feat_model.proofs.configuring.configure.Goals as goal

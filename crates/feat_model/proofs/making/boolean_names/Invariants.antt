@@ -1,5 +1,4 @@
-use Rattle.std.proofs.Common.{◌≡◌, ◌<◌, ◌++◌, ℕ, true, nat_eq, map, drop, slice_get, Some}
-use Rattle.std.specs.List.{list_any}
+use Rattle.std.proofs.Common.{◌≡◌, ◌++◌, map, drop}
 use Rattle.mrs_schema.specs.FeatureViews.{param_of}
 use Rattle.spec_features.specs.Features.{booleans}
 use Rattle.feat_model.specs.Meets.{numbers_of, ComeFrom}
