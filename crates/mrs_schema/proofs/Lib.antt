@@ -15,3 +15,4 @@ pub mod ParamLaws
 pub mod SetLaws
 pub mod ShapedLaws
 pub mod ReleaseLaws
+pub mod ConstraintLaws

@@ -2,6 +2,7 @@
 #![tactic(auto)]
 
 mod bits;
+mod constraints;
 mod draft;
 mod expressions;
 mod features;
