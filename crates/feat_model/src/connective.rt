@@ -5,7 +5,7 @@
 pub(crate) enum Connective {
     Conjunction,
     Disjunction,
-    /// The left side, or else not the right one: `-->`.
+    /// Not the left side, or else the right one: `-->`.
     Implication,
     Equivalence,
 }

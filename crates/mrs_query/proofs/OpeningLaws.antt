@@ -1,11 +1,16 @@
 -- What a document gives is opened with the features that are on, while the names grow as it is read.
-use Rattle.std.proofs.Common.{◌≡◌, ◌∙◌, refl, sym, ap, ℕ, ◌<◌, ◌≤◌, List, [], ◌∷◌, ◌++◌, length, map, zip, Bool, Some, Result, Ok, Err, All, arith, length-append}
+use Rattle.std.proofs.Common.{◌≡◌, ◌∙◌, refl, sym, ap, ℕ, ◌<◌, ◌≤◌, List, [], ◌∷◌, ◌++◌, length, map, zip, Bool, true, false, Option, Some, None, IfSome, Result, Ok, Err, All, nat_lt, inl, inr, arith, length-append}
+use Rattle.std.specs.Prelude.{IsSomeAnd, if◌then◌else◌}
 use Rattle.std.proofs.lemmas.List.{get_or_append_left}
 use Rattle.std.proofs.lemmas.List.Elements.{All-head, All-tail, All-weaker}
 use Rattle.serde_json.specs.Data.{Data}
 use Rattle.spec_expressions.specs.Scope.{Flag}
 use Rattle.spec_instructions.specs.Reading.{paths_read}
 use Rattle.spec_decode.specs.Machine.{Machine}
+use Rattle.spec_io.specs.Documents.{Document, document_of}
+use Rattle.spec_io.specs.States.{Shelving}
+use Rattle.spec_run.specs.End.{Which}
+use Rattle.spec_run.specs.Opening as opening
 use Rattle.spec_run.specs.Opening.{walked}
 use Rattle.mrs_names.specs.Texts.{IsExtended}
 use Rattle.mrs_arena.specs.Flat.{FlatNode}
@@ -14,8 +19,11 @@ use Rattle.ast_eval.specs.Choices.{Choices, flag_of, configuration_of}
 use Rattle.mrs_query.specs.declared.features.Features.{Features}
 use Rattle.mrs_query.specs.declared.opening.Unread.{Unread}
 use Rattle.mrs_query.specs.declared.opening.Unread.TheVariants as unread
+use Rattle.mrs_query.specs.declared.opening_error.OpeningError.{OpeningError}
+use Rattle.mrs_query.specs.declared.opening_error.OpeningError.TheVariants as error
+use Rattle.mrs_query.specs.End.{which_of, fault_of}
 use Rattle.mrs_query.specs.Features.{AreFeatures}
-use Rattle.mrs_query.specs.Opened.{Read, IsMachineOf}
+use Rattle.mrs_query.specs.Opened.{Read, Opens, IsMachineOf}
 
 -- ---- added names leave a configuration as it was
 
@@ -48,3 +56,44 @@ module _ (isa : List ℕ) (on : List (List ℕ)) (d : Data) (f : Features) (are 
       ∙ ap Ok (sym is)
   machine_read names nodes extended read (Err (unread.Refused fault)) is = absurd is
   machine_read names nodes extended read (Err unread.NoMemory) is = tt
+
+-- ---- a document that is not opened
+
+module _ {A : Type 0} (which : Which) (made : List ℕ → Result A opening.OpeningError) (name : List ℕ) where
+  abbrev of_bytes : Result (List ℕ) opening.OpeningError → Result A opening.OpeningError
+  of_bytes (Ok bytes) = made bytes
+  of_bytes (Err e) = Err e
+
+  through : (document : Option (List ℕ)) → of_bytes (opening.by_bytes which Ok document) ≡ opening.by_bytes which made document
+  through None = refl
+  through (Some bytes) = go (nat_lt opening.document_limit (length bytes))
+    where
+      go : (b : Bool) → of_bytes (if b then Err (opening.TooLong which) else Ok bytes) ≡ (if b then Err (opening.TooLong which) else made bytes)
+      go true = refl
+      go false = refl
+
+  passes : (docs : List Document) (e : opening.OpeningError) → opening.by_bytes which Ok (document_of name docs) ≡ Err e → opening.by_bytes which made (document_of name docs) ≡ Err e
+  passes docs e h = sym (through (document_of name docs)) ∙ ap of_bytes h
+
+  gives : (docs : Option (List Document)) (e : opening.OpeningError) → IfSome docs (λ d. opening.by_bytes which Ok (document_of name d) ≡ Err e) → IfSome docs (λ d. opening.by_bytes which made (document_of name d) ≡ Err e)
+  gives None e h = h
+  gives (Some d) e h = passes d e h
+
+  gives_some : (docs : Option (List Document)) (e : opening.OpeningError) → IsSomeAnd docs (λ d. opening.by_bytes which Ok (document_of name d) ≡ Err e) → IsSomeAnd docs (λ d. opening.by_bytes which made (document_of name d) ≡ Err e)
+  gives_some None e h = h
+  gives_some (Some d) e h = passes d e h
+
+  -- what keeps the bytes away keeps away what is made of them
+  pub unopened : (shelf after : Shelving) (e : OpeningError) → Opens (λ docs. opening.by_bytes which Ok (document_of name docs)) shelf after (Err e) → Opens (λ docs. opening.by_bytes which made (document_of name docs)) shelf after (Err e)
+  unopened shelf after (error.NotRead w) h = (
+    (h.0.0, (h.0.1.0, passes h.0.1.0 (opening.NotRead (which_of w)) h.0.1.1)),
+    elim h.1 [
+      | inl rose ↦ inl rose
+      | inr none ↦ inr (gives_some shelf.documents (opening.NotRead (which_of w)) none)
+    ],
+  )
+  unopened shelf after (error.TooLong w) h =
+      ((h.0.0, (h.0.1.0, passes h.0.1.0 (opening.NotRead (which_of w)) h.0.1.1)), gives shelf.documents (opening.TooLong (which_of w)) h.1, h.2)
+  unopened shelf after (error.Refused w fault) h =
+      ((h.0.0, (h.0.1.0, passes h.0.1.0 (opening.NotRead (which_of w)) h.0.1.1)), gives shelf.documents (opening.Refused (which_of w) (fault_of fault)) h.1, h.2)
+  unopened shelf after error.NoMemory h = h

@@ -52,10 +52,10 @@ module _ (s : Scene) (asked : Request) where
   by_opening : (e : OpeningError) → Opens (opened asked) s.shelf s.shelf_after (Err e) → Untouched s → Means s asked (ending e)
   by_opening (error.NotRead which.Insns) opens still = record { cause = opens; untouched = still }
   by_opening (error.NotRead which.Log) opens still = record { cause = opens; untouched = still }
-  by_opening (error.NotRead which.Input) opens still = absurd opens.0
+  by_opening (error.NotRead which.Input) opens still = absurd opens.0.0
   by_opening (error.TooLong which.Insns) opens still = record { cause = opens; untouched = still }
   by_opening (error.TooLong which.Log) opens still = record { cause = opens; untouched = still }
-  by_opening (error.TooLong which.Input) opens still = absurd opens.0
+  by_opening (error.TooLong which.Input) opens still = absurd opens.0.0
   by_opening (error.Refused which fault) opens still = record { cause = opens; untouched = still }
   by_opening error.NoMemory opens still = record { shelf = opens; reached = inl still }
 

@@ -20,8 +20,13 @@ module _ {A : Type 0} (given : List Named → Result A OpeningError) (shelf shel
   abbrev pub DocumentsGive : Result A OpeningError → Type 0
   DocumentsGive result = IfSome shelf.documents (λ docs. given docs ≡ result)
 
-  -- nothing is opened: the documents give this error; where one was not read, the shelf tells them, or it failed
+  -- a document that is asked for: where documents lack it, it is the one that is not read
+  abbrev pub IsNamed : Which → Type 0
+  IsNamed which = IsDocument which × ((lacking : List Named) × (given lacking ≡ Err (NotRead which)))
+
+  -- nothing is opened: a document that is asked for gives this error; where it was not read, the shelf tells that it holds
+  -- none of that name, or it failed
   abbrev pub IsUnopened : OpeningError → Type 0
-  IsUnopened (NotRead which) = IsDocument which × (Rose shelf.faults shelf_after.faults ⊎ IsSomeAnd shelf.documents (λ docs. given docs ≡ Err (NotRead which)))
-  IsUnopened (TooLong which) = IsDocument which × DocumentsGive (Err (TooLong which)) × ShelfStill shelf shelf_after
-  IsUnopened (Refused which fault) = IsDocument which × DocumentsGive (Err (Refused which fault)) × ShelfStill shelf shelf_after
+  IsUnopened (NotRead which) = IsNamed which × (Rose shelf.faults shelf_after.faults ⊎ IsSomeAnd shelf.documents (λ docs. given docs ≡ Err (NotRead which)))
+  IsUnopened (TooLong which) = IsNamed which × DocumentsGive (Err (TooLong which)) × ShelfStill shelf shelf_after
+  IsUnopened (Refused which fault) = IsNamed which × DocumentsGive (Err (Refused which fault)) × ShelfStill shelf shelf_after

@@ -35,7 +35,7 @@ pub record ReadsAtMost (before after : Reading) (limit : ℕ) : Type 0 where
   pub taken : Consumes before.left after.left bytes
   pub few : length bytes ≤ limit
 
--- the documents stand as before, and the shelf's count of faults has not fallen
+-- the documents stand as before, and no count of faults of shelf, source or sink has fallen
 pub record Kept (s : Scene) : Type 0 where
   pub documents : s.shelf_after.documents ≡ s.shelf.documents
   pub shelf : s.shelf.faults ≤ s.shelf_after.faults

@@ -1,6 +1,6 @@
 //! What a run of the program means: what each command opens and does, the result, and what each status says of the
 //! outside.
-//! Definitions alone, in `specs/`, and laws about them, in `proofs/`.
+//! Definitions, in `specs/`, and laws about them, which have their proofs in `proofs/`.
 #![tactic(auto)]
 
 ghost use Rattle.spec_run.specs.Exact.{AnswersAreExact, RunsComplete, FaultsComeLate, PrefixesGoOut};
