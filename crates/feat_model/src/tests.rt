@@ -1,7 +1,7 @@
 //! Features without constraints: the first configuration, the clauses of pins that clash, and a pin of no feature.
 
 use crate::{Model, ModelFault, Outcome, Pin, configure};
-use feat_proof::print_log;
+use feat_proof::{Verdict, check, print_log, read_log};
 use mrs_names::NameId;
 use mrs_schema::Features;
 use std::alloc::Global;
@@ -62,6 +62,8 @@ fn features_are_configured(rt: HostRuntime) -> Result<(), Fail> {
         text.starts_with(b"p 2 2 "),
         "two variables and two clauses"
     );
+    let (cnf, log) = read_log(alloc, &text)?;
+    assert_eq!(&rt; check(alloc, &cnf, &log)?, Verdict::Refuted);
     assert_eq!(&rt;
         configure(alloc, &model, &[ON, UNKNOWN]).err(),
         Some(ModelFault::UnknownFeature { pin: 1 })
