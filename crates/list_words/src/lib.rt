@@ -1,0 +1,6 @@
+//! The lines of words: printed, and read back.
+#![tactic(auto)]
+
+mod lister;
+
+pub use lister::Lister;
