@@ -1,3 +1,6 @@
 pub mod Digits
 pub mod Streams
+pub mod StreamLines
+pub mod EncodedLaws
 pub mod Worked
+pub mod WorkedLines

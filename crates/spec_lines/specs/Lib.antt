@@ -3,3 +3,11 @@ pub mod Line
 pub mod Listing
 pub mod Leaf
 pub mod LogLine
+pub mod Pairs
+pub mod LoneLeaf
+pub mod FullLine
+pub mod BareLine
+pub mod Words
+pub mod Streams
+pub mod LeafFields
+pub mod Encoded
