@@ -1,5 +1,5 @@
 -- Worked values: numbers.
-use Rattle.std.specs.Prelude.{◌≡◌, ℕ, [], ◌∷◌, ◌++◌, replicate, Some, None, codes, refl}
+use Rattle.std.specs.Prelude.{◌≡◌, [], ◌++◌, replicate, Some, None, codes, refl}
 use Rattle.spec_command.specs.Number.{digit_value, number_in, number_below}
 
 decimal_number : number_in (codes "4096") ≡ Some 4096
