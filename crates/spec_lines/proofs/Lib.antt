@@ -4,3 +4,4 @@ pub mod StreamLines
 pub mod EncodedLaws
 pub mod Worked
 pub mod WorkedLines
+pub mod WorkedAssembly

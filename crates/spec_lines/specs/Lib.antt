@@ -11,3 +11,9 @@ pub mod Words
 pub mod Streams
 pub mod LeafFields
 pub mod Encoded
+pub mod Token
+pub mod LineFault
+pub mod Given
+pub mod Parsed
+pub mod Reasons
+pub mod Assembly
