@@ -65,7 +65,10 @@ fn command_lines(rt: HostRuntime) -> Result<(), Fail> {
         ("list =x", Err(1)),
         ("list jobs=0 insns", Err(1)),
         ("list isa=X insns=", Err(2)),
-        ("list on=B insns=i on=A on=B", Ok("list i A64 full 4294967296 B A B")),
+        (
+            "list on=B insns=i on=A on=B",
+            Ok("list i A64 full 4294967296 B A B"),
+        ),
         ("list insns=i on=", Err(2)),
         ("list insns=i on=A on=a#b", Err(3)),
         ("list on=A", Err(2)),
