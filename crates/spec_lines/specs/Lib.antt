@@ -17,3 +17,4 @@ pub mod Given
 pub mod Parsed
 pub mod Reasons
 pub mod Assembly
+pub mod Cut
