@@ -1,11 +1,13 @@
 -- Lines of streams in two parts, and what lines in two parts are assembled to.
-use Rattle.std.proofs.Common.{◌≡◌, ℕ, suc, ◌+◌, Bool, true, false, cond, List, [], ◌∷◌, ◌++◌, length, Option, Some, None, Result, Ok, Err, refl, sym, ap, ◌∙◌, arith, append-nil, append_assoc, add-zero}
+use Rattle.std.proofs.Common.{◌≡◌, ℕ, suc, ◌+◌, ◌<◌, ◌≤◌, Bool, true, false, cond, nat_lt, List, [], ◌∷◌, ◌++◌, length, Option, Some, None, Result, Ok, Err, inl, inr, refl, sym, ap, ◌∙◌, arith, append-nil, append_assoc, length-append, add-zero}
+use Rattle.std.proofs.lemmas.Bool.{cases_lt}
+use Rattle.std.proofs.lemmas.Bool.Decides.{nat_tests}
 use Rattle.std.specs.Int.{w32, to_le_bytes}
 use Rattle.spec_decode.specs.Machine.{Machine}
-use Rattle.spec_lines.specs.LineFault.{LineFault}
-use Rattle.spec_lines.specs.Parsed.{parsed}
-use Rattle.spec_lines.specs.Assembly.{BadLine, Assembled, lines_in, before_lines, before_assembled, assembled_from}
-use Rattle.spec_lines.specs.Cut.{Cut, cut, before_whole}
+use Rattle.spec_lines.specs.LineFault.{LineFault, Long, refused}
+use Rattle.spec_lines.specs.Parsed.{line_limit, parsed}
+use Rattle.spec_lines.specs.Assembly.{BadLine, Assembled, lines_in, before_lines, before_assembled, assembled_from, assembled}
+use Rattle.spec_lines.specs.Cut.{Cut, cut, before_whole, judged_open, assembled_cut}
 
 -- ---- a stream in two parts
 
@@ -103,3 +105,114 @@ pub bytes-front : (number : ℕ) (machine : Machine) (lines more : List (List �
 bytes-front number machine lines more =
     let h = bytes_of_followed (assembled_from number machine lines).refused (assembled_from number machine lines).bytes (assembled_from (number + length lines) machine more) in
     (h.0, ap (λ a. a.bytes) (assembled-append number machine lines more) ∙ h.1)
+
+-- ---- lines that are refused
+
+-- a line that is too long is refused, whatever follows
+pub long_line : (number : ℕ) (machine : Machine) (line : List ℕ) (more : List (List ℕ)) → line_limit < length line
+    → assembled_from number machine (line ∷ more) ≡ record { bytes = []; refused = Some (record { number = number; fault = record { at = line_limit; why = Long } }) }
+long_line number machine [] more long = absurd (omega arith)
+long_line number machine (byte ∷ line) more long =
+    let e : nat_lt line_limit (length (byte ∷ line)) ≡ true = grind (arith, nat_tests) in
+    let says : parsed machine (byte ∷ line) ≡ refused line_limit Long = rw e refl in
+    rw says refl
+
+-- what is too long and left open is too long when more of it comes
+pub grown_long : (left more : List ℕ) → line_limit < length left → line_limit < length (left ++ more)
+grown_long left more long = omega (arith, length-append left more)
+
+judged : (left : List ℕ) → line_limit < length left → judged_open left ≡ left ∷ []
+judged left long = let e : nat_lt line_limit (length left) ≡ true = grind (arith, nat_tests) in rw e refl
+
+not_judged : (left : List ℕ) → length left ≤ line_limit → judged_open left ≡ []
+not_judged left short = let e : nat_lt line_limit (length left) ≡ false = grind (arith, nat_tests) in rw e refl
+
+-- an earlier refusal decides
+stays_refused : (number : ℕ) (machine : Machine) (lines more : List (List ℕ)) (bad : BadLine) → (assembled_from number machine lines).refused ≡ Some bad
+    → assembled_from number machine (lines ++ more) ≡ assembled_from number machine lines
+stays_refused number machine lines more bad is =
+    let a : Assembled = assembled_from number machine lines in
+    assembled-append number machine lines more ∙ rw is (ap (λ r. record { bytes = a.bytes; refused = r }) (sym is))
+
+-- and so does a line that is too long behind lines without a refusal
+long_behind : (machine : Machine) (lines more : List (List ℕ)) (line : List ℕ) → (assembled_from 1 machine lines).refused ≡ None → line_limit < length line
+    → assembled_from 1 machine (lines ++ (line ∷ more)) ≡ record { bytes = (assembled_from 1 machine lines).bytes; refused = Some (record { number = 1 + length lines; fault = record { at = line_limit; why = Long } }) }
+long_behind machine lines more line none long =
+    assembled-append 1 machine lines (line ∷ more) ∙ rw (none, long_line (1 + length lines) machine line more long)
+      (ap (λ bytes. record { bytes = bytes; refused = Some (record { number = 1 + length lines; fault = record { at = line_limit; why = Long } }) }) (append-nil (assembled_from 1 machine lines).bytes))
+
+-- ---- what first bytes decide
+
+module _ (machine : Machine) (xs : List ℕ) (bad : BadLine) where
+  abbrev whole : List (List ℕ)
+  whole = (cut xs).whole
+
+  after_long : (lines more : List (List ℕ)) (line : List ℕ) → (assembled_from 1 machine whole).refused ≡ None → line_limit < length (cut xs).left → line_limit < length line → lines ≡ whole ++ (line ∷ more) → assembled_from 1 machine lines ≡ assembled_cut machine (cut xs)
+  after_long lines more line none long longer e =
+      ap (assembled_from 1 machine) e ∙ long_behind machine whole more line none longer
+      ∙ sym (ap (λ last. assembled_from 1 machine (whole ++ last)) (judged (cut xs).left long) ∙ long_behind machine whole [] (cut xs).left none long)
+
+  none_is_open : (assembled_from 1 machine whole).refused ≡ None → length (cut xs).left ≤ line_limit → (assembled_cut machine (cut xs)).refused ≡ Some bad → ⊥
+  none_is_open none short is =
+      let e : assembled_cut machine (cut xs) ≡ assembled_from 1 machine whole = ap (λ last. assembled_from 1 machine (whole ++ last)) (not_judged (cut xs).left short) ∙ ap (assembled_from 1 machine) (append-nil whole) in
+      let same : None ≡ Some bad = sym none ∙ ap (λ a. a.refused) (sym e) ∙ is in absurd cc
+
+  -- the lines of a longer stream begin with those of its first bytes; the open one, if it is too long, goes on
+  judged_more : (a : Cut) (lines : List (List ℕ)) (left : List ℕ) → line_limit < length a.left
+      → (line : List ℕ) × (more : List (List ℕ)) × (line_limit < length line) × ((with_more a lines left).whole ++ judged_open (with_more a lines left).left ≡ a.whole ++ (line ∷ more))
+  judged_more a [] left long = (a.left ++ left, [], grown_long a.left left long, ap (λ last. a.whole ++ last) (judged (a.left ++ left) (grown_long a.left left long)))
+  judged_more a (line ∷ lines) left long = (a.left ++ line, lines ++ judged_open left, grown_long a.left line long, append_assoc a.whole _ _)
+
+  listed_open : (left : List ℕ) → line_limit < length left → open_line left ≡ left ∷ []
+  listed_open [] long = absurd (omega arith)
+  listed_open (byte ∷ left) long = refl
+
+  listed_more : (a : Cut) (lines : List (List ℕ)) (left : List ℕ) → line_limit < length a.left
+      → (line : List ℕ) × (more : List (List ℕ)) × (line_limit < length line) × ((with_more a lines left).whole ++ open_line (with_more a lines left).left ≡ a.whole ++ (line ∷ more))
+  listed_more a [] left long = (a.left ++ left, [], grown_long a.left left long, ap (λ last. a.whole ++ last) (listed_open (a.left ++ left) (grown_long a.left left long)))
+  listed_more a (line ∷ lines) left long = (a.left ++ line, lines ++ open_line left, grown_long a.left line long, append_assoc a.whole _ _)
+
+  -- where first bytes hold a line that is refused, more bytes change nothing, read on or cut
+  module _ (is : (assembled_cut machine (cut xs)).refused ≡ Some bad) (ys : List ℕ) where
+    abbrev Same : Assembled → Type 0
+    Same a = a ≡ assembled_cut machine (cut xs)
+
+    pub cut_stays : Same (assembled_cut machine (cut (xs ++ ys)))
+    cut_stays = go (assembled_from 1 machine whole).refused refl
+      where
+        lines : List (List ℕ)
+        lines = (cut (xs ++ ys)).whole ++ judged_open (cut (xs ++ ys)).left
+
+        here : lines ≡ (with_more (cut xs) (cut ys).whole (cut ys).left).whole ++ judged_open (with_more (cut xs) (cut ys).whole (cut ys).left).left
+        here = ap (λ c. c.whole ++ judged_open c.left) (cut-append xs ys)
+
+        by_length : (assembled_from 1 machine whole).refused ≡ None → Same (assembled_from 1 machine lines)
+        by_length none = elim (cases_lt line_limit (length (cut xs).left)) [
+          | inl long ↦ (let m = judged_more (cut xs) (cut ys).whole (cut ys).left long in after_long lines m.1 m.0 none long m.2 (here ∙ m.3))
+          | inr short ↦ absurd (none_is_open none short is)
+        ]
+
+        go : (r : Option BadLine) → (assembled_from 1 machine whole).refused ≡ r → Same (assembled_from 1 machine lines)
+        go None none = by_length none
+        go (Some other) some =
+            let front = whole-front xs ys in
+            let e : lines ≡ whole ++ (front.0 ++ judged_open (cut (xs ++ ys)).left) = ap (λ w. w ++ judged_open (cut (xs ++ ys)).left) front.1 ∙ append_assoc whole _ _ in
+            ap (assembled_from 1 machine) e ∙ stays_refused 1 machine whole _ other some ∙ sym (stays_refused 1 machine whole (judged_open (cut xs).left) other some)
+
+    pub read_stays : Same (assembled machine (xs ++ ys))
+    read_stays = go (assembled_from 1 machine whole).refused refl
+      where
+        here : lines_in (xs ++ ys) ≡ (with_more (cut xs) (cut ys).whole (cut ys).left).whole ++ open_line (with_more (cut xs) (cut ys).whole (cut ys).left).left
+        here = lines-cut (xs ++ ys) ∙ ap (λ c. c.whole ++ open_line c.left) (cut-append xs ys)
+
+        by_length : (assembled_from 1 machine whole).refused ≡ None → Same (assembled machine (xs ++ ys))
+        by_length none = elim (cases_lt line_limit (length (cut xs).left)) [
+          | inl long ↦ (let m = listed_more (cut xs) (cut ys).whole (cut ys).left long in after_long (lines_in (xs ++ ys)) m.1 m.0 none long m.2 (here ∙ m.3))
+          | inr short ↦ absurd (none_is_open none short is)
+        ]
+
+        go : (r : Option BadLine) → (assembled_from 1 machine whole).refused ≡ r → Same (assembled machine (xs ++ ys))
+        go None none = by_length none
+        go (Some other) some =
+            let front = lines-front xs ys in
+            ap (assembled_from 1 machine) front.1 ∙ stays_refused 1 machine whole _ other some ∙ sym (stays_refused 1 machine whole (judged_open (cut xs).left) other some)

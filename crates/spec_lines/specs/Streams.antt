@@ -1,5 +1,5 @@
 -- The lines of a stream of bytes, in either form.
-use Rattle.std.specs.Prelude.{ℕ, ◌+◌, ◌*◌, List, [], ◌∷◌, ◌++◌, length, codes, flat_map}
+use Rattle.std.specs.Prelude.{ℕ, ◌+◌, ◌*◌, Bool, true, false, List, [], ◌∷◌, ◌++◌, length, codes, flat_map}
 use Rattle.spec_decode.specs.Machine.{Machine}
 use Rattle.spec_lines.specs.Hex.{hex}
 use Rattle.spec_lines.specs.FullLine.{full_line}
@@ -10,6 +10,11 @@ use Rattle.spec_lines.specs.Words.{words_in, rest_in}
 pub data Form : Type 0 where
   Full : Form
   Bare : Form
+
+-- lines are bare or full
+abbrev pub form_by : Bool → Form
+form_by true = Bare
+form_by false = Full
 
 -- the line of a word at an offset of the stream
 abbrev pub word_line : Form → Machine → ℕ → ℕ → List ℕ

@@ -1,14 +1,15 @@
 -- The work of `asm`: what first bytes of a stream decide.
 use Rattle.std.proofs.Common.{◌≡◌, ℕ, ◌+◌, ◌-◌, ◌<◌, ◌≤◌, Bool, true, false, cond, nat_lt, List, [], ◌∷◌, ◌++◌, length, take, arith, Option, Some, None, inl, inr, refl, sym, ap, ◌∙◌, append_assoc}
-use Rattle.std.proofs.Math.Seq.{take-append-add}
+use Rattle.std.proofs.Math.Seq.{take-append-add, take-append_seam}
 use Rattle.std.proofs.lemmas.Bool.{cases_lt}
 use Rattle.std.proofs.lemmas.Bool.Decides.{nat_tests}
 use Rattle.spec_instructions.specs.Tree.{Own}
 use Rattle.spec_decode.specs.Machine.{Machine}
+use Rattle.spec_lines.specs.Reasons.{reason}
 use Rattle.spec_lines.specs.Assembly.{BadLine, Assembled, assembled_from, assembled, lines_in}
 use Rattle.spec_lines.specs.Cut.{cut, judged_open, assembled_cut}
-use Rattle.spec_lines.proofs.CutLaws.{whole-front, lines-front, bytes-front}
-use Rattle.spec_run.specs.End.{End, IsEarly, Done, Limit, Input}
+use Rattle.spec_lines.proofs.CutLaws.{whole-front, lines-front, bytes-front, cut_stays, read_stays}
+use Rattle.spec_run.specs.End.{End, IsEarly, Done, Question, Line, Limit, Input}
 use Rattle.spec_run.specs.Work.{Outcome}
 use Rattle.spec_run.specs.Assembling.{or_refused, assembly_outcome, asm_outcome, asm_work}
 use Rattle.spec_run.specs.Fits.{IsProgress}
@@ -37,6 +38,31 @@ module _ (machine : Machine) (limit : ℕ) where
         let front = bytes-front 1 machine (cut xs).whole more.0 in
         (front.0, ap (λ o. o.out) (asm_whole (xs ++ ys) short) ∙ ap (λ lines. (assembled_from 1 machine lines).bytes) more.1 ∙ front.1))
   ]
+
+-- ---- what first bytes decide
+
+module _ (machine : Machine) (limit : ℕ) where
+  -- the first bytes of a longer stream, up to the limit, begin with all that stand within it
+  within : (xs ys : List ℕ) → length xs ≤ limit → take limit (xs ++ ys) ≡ xs ++ take (limit - length xs) ys
+  within xs ys le = let n : length xs + (limit - length xs) ≡ limit = omega arith in ap (λ k. take k (xs ++ ys)) (sym n) ∙ take-append-add xs ys (limit - length xs)
+
+  -- where they hold a line that is refused, it decides
+  pub asm_refused : (xs ys : List ℕ) (bad : BadLine) → length xs ≤ limit → (assembled_cut machine (cut xs)).refused ≡ Some bad
+      → asm_outcome machine limit (xs ++ ys) ≡ record { end = Question (Line bad.number bad.fault.at (reason machine.paths bad.fault.why)); out = (assembled_cut machine (cut xs)).bytes }
+  asm_refused xs ys bad le is =
+      let decided : (end : End) → assembly_outcome machine.paths end (assembled_cut machine (cut xs)) ≡ record { end = Question (Line bad.number bad.fault.at (reason machine.paths bad.fault.why)); out = (assembled_cut machine (cut xs)).bytes } = λ end. rw is refl in
+      elim (cases_lt limit (length (xs ++ ys))) [
+        | inl long ↦ asm_long machine limit (xs ++ ys) long ∙ ap (λ bytes. assembly_outcome machine.paths (Limit Input) (assembled_cut machine (cut bytes))) (within xs ys le)
+            ∙ ap (assembly_outcome machine.paths (Limit Input)) (cut_stays machine xs bad is (take (limit - length xs) ys)) ∙ decided (Limit Input)
+        | inr short ↦ asm_whole machine limit (xs ++ ys) short ∙ ap (assembly_outcome machine.paths Done) (read_stays machine xs bad is ys) ∙ decided Done
+      ]
+
+  -- where they reach the limit and hold none, and more follows, the run ends at the limit
+  pub asm_cut_off : (xs ys : List ℕ) → length xs ≡ limit → limit < length (xs ++ ys) → (assembled_cut machine (cut xs)).refused ≡ None
+      → asm_outcome machine limit (xs ++ ys) ≡ record { end = Limit Input; out = (assembled_cut machine (cut xs)).bytes }
+  asm_cut_off xs ys size long none =
+      let first : take limit (xs ++ ys) ≡ xs = ap (λ k. take k (xs ++ ys)) (sym size) ∙ take-append_seam xs ys in
+      asm_long machine limit (xs ++ ys) long ∙ ap (λ bytes. assembly_outcome machine.paths (Limit Input) (assembled_cut machine (cut bytes))) first ∙ rw none refl
 
 late_end : (paths : List (List Own)) (end : End) (bad : Option BadLine) → (IsEarly end → ⊥) → IsEarly (or_refused paths end bad) → ⊥
 late_end paths end None late h = late h

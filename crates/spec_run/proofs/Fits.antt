@@ -7,13 +7,13 @@ use Rattle.spec_instructions.specs.Tree.{Own}
 use Rattle.spec_instructions.specs.Paths.{labelled_leaf}
 use Rattle.spec_decode.specs.Machine.{Machine}
 use Rattle.spec_lines.specs.Words.{words_in, rest_in}
-use Rattle.spec_lines.specs.Streams.{Form, word_lines, bytes_line, stream_lines}
+use Rattle.spec_lines.specs.Streams.{Form, form_by, word_lines, bytes_line, stream_lines}
 use Rattle.spec_lines.proofs.Streams.{words_in-front}
 use Rattle.spec_lines.proofs.StreamLines.{word_lines-append}
 use Rattle.spec_command.specs.Commands.{AskList, AskAsm, AskLeaf, AskProof}
 use Rattle.spec_run.specs.End.{IsEarly, Limit, Input}
 use Rattle.spec_run.specs.Work.{Outcome}
-use Rattle.spec_run.specs.Listing.{form_by, stream_end, list_outcome, list_work}
+use Rattle.spec_run.specs.Listing.{stream_end, list_outcome, list_work}
 use Rattle.spec_run.specs.Commands.{leaf_outcome}
 use Rattle.spec_run.proofs.Assembling.{asm_fits}
 use Rattle.spec_run.specs.Fits.{IsProgress, WorksFit}

@@ -4,12 +4,13 @@ use Rattle.spec_io.specs.Documents.{Document as Named}
 use Rattle.spec_instructions.specs.Tree.{Own}
 use Rattle.spec_instructions.specs.Paths.{labelled_leaf}
 use Rattle.spec_decode.specs.Machine.{Machine}
+use Rattle.spec_lines.specs.Streams.{form_by}
 use Rattle.spec_lines.specs.LeafFields.{whole_leaf}
 use Rattle.spec_command.specs.Commands.{Request, AskList, AskAsm, AskLeaf, AskProof}
 use Rattle.spec_run.specs.End.{Done, Question, NoLeaf}
 use Rattle.spec_run.specs.Opening.{OpeningError, machine_opened}
 use Rattle.spec_run.specs.Logs.{Checked, log_opened, log_outcome}
-use Rattle.spec_run.specs.Listing.{form_by, list_work}
+use Rattle.spec_run.specs.Listing.{list_work}
 use Rattle.spec_run.specs.Assembling.{asm_work}
 use Rattle.spec_run.specs.Work.{Outcome, Work, Once, Reads}
 

@@ -1,15 +1,10 @@
 -- `list`: the lines of the words of a stream.
-use Rattle.std.specs.Prelude.{ℕ, Bool, true, false, List, [], ◌∷◌, length, take, nat_lt, if◌then◌else◌}
+use Rattle.std.specs.Prelude.{ℕ, List, [], ◌∷◌, length, take, nat_lt, if◌then◌else◌}
 use Rattle.spec_decode.specs.Machine.{Machine}
 use Rattle.spec_lines.specs.Words.{words_in, rest_in}
-use Rattle.spec_lines.specs.Streams.{Form, Full, Bare, word_lines, stream_lines}
+use Rattle.spec_lines.specs.Streams.{Form, word_lines, stream_lines}
 use Rattle.spec_run.specs.End.{End, Done, Ragged, Limit, Input}
 use Rattle.spec_run.specs.Work.{Outcome, Over}
-
--- lines are bare or full
-abbrev pub form_by : Bool → Form
-form_by true = Bare
-form_by false = Full
 
 -- how a stream ends, by the bytes behind its last whole word
 abbrev pub stream_end : List ℕ → End
