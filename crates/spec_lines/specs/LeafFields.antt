@@ -11,9 +11,12 @@ abbrev pub shown_text : Bool → List ℕ
 shown_text true = codes " shown\n"
 shown_text false = codes " fixed\n"
 
--- a line `field` with its name, its lowest bit and how many bits it has
+-- a line `field` with its name, its lowest bit and how many bits it has, and whether it is shown
+abbrev pub field_text : Field → Bool → List ℕ
+field_text f is_open = codes "field " ++ (f.name ++ (32 ∷ (decimal f.start ++ (32 ∷ (decimal f.width ++ shown_text is_open)))))
+
 abbrev pub field_line : List Own → Field → List ℕ
-field_line path f = codes "field " ++ (f.name ++ (32 ∷ (decimal f.start ++ (32 ∷ (decimal f.width ++ shown_text (is_shown path f))))))
+field_line path f = field_text f (is_shown path f)
 
 -- the line `rest`: the free unnamed bits, and their defaults
 abbrev pub free_line : List Own → List ℕ
