@@ -10,7 +10,7 @@ use crate::assembly::Assembly;
 use crate::ended::Ended;
 use crate::piece::{assemble_piece, finish};
 use crate::stop::Stop;
-use list_stream::{Look, look};
+use list_stream::{Look, look_past};
 use list_words::Lister;
 use mrs_io::{Sink, Source};
 use std::alloc::Global;
@@ -50,7 +50,7 @@ fn assemble_last<S: Source, K: Sink>(
     if n < buffer.len() {
         return ended(finish(assembly, lister, out));
     }
-    match look(input) {
+    match look_past(input) {
         Look::End => ended(finish(assembly, lister, out)),
         Look::More => Ended::Limit,
         Look::Failed => Ended::ReadFault,

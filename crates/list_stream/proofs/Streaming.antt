@@ -292,3 +292,20 @@ module _ (form : Form) (machine : Machine) (limit : ℕ) where
         input_count = omega (arith, cause.input_later, looked.2);
         out_count = omega (arith, cause.out_later);
       }
+
+  -- ---- the same where the piece's offset is given by another number
+
+  pub stopped_at : (r0 r r1 : Reading) (w0 w w1 : Writing) (k offset : ℕ) (buffer : List ℕ) (s : Stop) → offset ≡ k * 65536 → k * 65536 + length buffer ≤ limit → r0.faults ≤ r.faults → w0.faults ≤ w.faults → Progress form machine r0 r w0 w k
+      → PieceEnds form machine offset (length buffer) r r1 w w1 buffer (Err s) → PieceCause r r1 w w1 (Err s) → Ran r0 r1 w0 w1 (Reads work) (end_of (stopped_by s))
+  stopped_at r0 r r1 w0 w w1 k offset buffer s e room il ol p h cause =
+      stopped r0 r r1 w0 w w1 k buffer s room il ol p (subst (λ o. PieceEnds form machine o (length buffer) r r1 w w1 buffer (Err s)) e h) cause
+
+  pub finished_from : (r0 r r1 : Reading) (w0 w w1 w2 : Writing) (k n offset : ℕ) (buffer : List ℕ) (s : Ended) → offset ≡ k * 65536 → k * 65536 + length buffer ≤ limit → n < length buffer → r0.faults ≤ r.faults → w0.faults ≤ w.faults → PieceCause r r1 w w1 (Ok n)
+      → Progress form machine r0 r w0 w k → PieceListed form machine offset (length buffer) r r1 w w1 buffer n → Finished form offset (take n buffer) w1 w2 s → Ran r0 r1 w0 w2 (Reads work) (end_of s)
+  finished_from r0 r r1 w0 w w1 w2 k n offset buffer s e room short il ol cause p h f =
+      finished r0 r r1 w0 w w1 w2 k n buffer s room short il ol cause p (subst (λ o. PieceListed form machine o (length buffer) r r1 w w1 buffer n) e h) (subst (λ o. Finished form o (take n buffer) w1 w2 s) e f)
+
+  pub finished_whole : (r0 r r1 r2 : Reading) (w0 w w1 w2 : Writing) (k n offset : ℕ) (buffer : List ℕ) (s : Ended) → offset ≡ k * 65536 → k * 65536 + length buffer ≤ limit → r0.faults ≤ r.faults → w0.faults ≤ w.faults → PieceCause r r1 w w1 (Ok n)
+      → Progress form machine r0 r w0 w k → PieceListed form machine offset (length buffer) r r1 w w1 buffer n → Looked r1 r2 look.End → Finished form offset (take n buffer) w1 w2 s → Ran r0 r2 w0 w2 (Reads work) (end_of s)
+  finished_whole r0 r r1 r2 w0 w w1 w2 k n offset buffer s e room il ol cause p h looked f =
+      finished_at_limit r0 r r1 r2 w0 w w1 w2 k n buffer s room il ol cause p (subst (λ o. PieceListed form machine o (length buffer) r r1 w w1 buffer n) e h) looked (subst (λ o. Finished form o (take n buffer) w1 w2 s) e f)

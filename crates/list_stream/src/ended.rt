@@ -6,9 +6,7 @@ pub enum Ended {
     /// The stream was read to its end, and the line of each word went out.
     Done,
     /// So it was, and the stream ended inside a word: behind so many bytes of it, from 1 to 3, which got a line too.
-    Ragged {
-        rest: u8,
-    },
+    Ragged { rest: u8 },
     /// The source failed. The lines of a prefix of what was read went out.
     ReadFault,
     /// The sink failed. A prefix of the lines went out.

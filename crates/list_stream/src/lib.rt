@@ -6,4 +6,5 @@ mod piece;
 mod stream;
 
 pub use ended::Ended;
+pub use piece::{Look, look_past};
 pub use stream::list_stream;

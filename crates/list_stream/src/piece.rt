@@ -1,8 +1,7 @@
 //! One piece of a stream, and its end.
 ghost use Rattle.std.specs.Prelude.{◌≡◌, ◌+◌, ◌<◌, ◌^◌, length};
 ghost use Rattle.spec_lines.specs.Words.{rest_in};
-ghost use Rattle.spec_run.specs.Listing.{form_by};
-ghost use Rattle.list_words.specs.Listers.{IsOneRelease, machine};
+ghost use Rattle.list_words.specs.Listers.{IsOneRelease, machine, form};
 ghost use Rattle.list_stream.specs.Pieces.{PieceEnds, PieceCause, Finished, Looked, stopped_by};
 
 use crate::ended::Ended;
@@ -44,7 +43,7 @@ impl Stop {
 
 /// What a look for a byte past the limit found.
 #[derive(Clone, Copy, Debug, PartialEq, Eq)]
-pub(crate) enum Look {
+pub enum Look {
     End,
     More,
     Failed,
@@ -62,7 +61,7 @@ pub(crate) fn list_piece<S: Source, K: Sink>(
 ) -> Result<usize, Stop>
     requires release { IsOneRelease lister.now }
     requires offset { offset + length buffer.old < 2 ^ 64 }
-    ensures piece { PieceEnds (form_by lister.now.bare) (machine lister.now) offset (length buffer.new)
+    ensures piece { PieceEnds (form lister.now) (machine lister.now) offset (length buffer.new)
         (S.reading input.old) (S.reading input.new) (K.writing out.old) (K.writing out.new) buffer.new result }
     ensures cause { PieceCause (S.reading input.old) (S.reading input.new) (K.writing out.old) (K.writing out.new) result }
 {
@@ -89,14 +88,14 @@ fn rest_of(last: &[u8]) -> &[u8]
 /// which stands at an offset; the lines of its whole words went out. `lines` is room that is used anew.
 #[tactic(auto, using(spec_lines::proofs::Streams::rest_offset, spec_lines::proofs::Streams::length_rest_in_lt))]
 pub(crate) fn finish<K: Sink>(
-    bare: bool,
+    lister: &Lister<'_>,
     offset: u64,
     last: &[u8],
     out: &mut K,
     lines: &mut Vec<u8>,
 ) -> Ended
     requires { offset + length last.now < 2 ^ 64 }
-    ensures { Finished (form_by bare) offset last.now (K.writing out.old) (K.writing out.new) result }
+    ensures { Finished (form lister.now) offset last.now (K.writing out.old) (K.writing out.new) result }
 {
     let rest = rest_of(last);
     if rest.is_empty() {
@@ -104,7 +103,7 @@ pub(crate) fn finish<K: Sink>(
     }
     lines.clear();
     let at = offset + (last.len() - rest.len()) as u64;
-    if push_bytes_line(lines, bare, at, rest).is_err() {
+    if push_bytes_line(lines, lister, at, rest).is_err() {
         return Ended::NoMemory;
     }
     if write_whole(out, lines).is_err() {
@@ -116,7 +115,7 @@ pub(crate) fn finish<K: Sink>(
 }
 
 /// Looks for a byte past the limit of the stream.
-pub(crate) fn look<S: Source>(input: &mut S) -> Look
+pub fn look_past<S: Source>(input: &mut S) -> Look
     ensures { Looked (S.reading input.old) (S.reading input.new) result }
 {
     let mut next = [0u8; 1];
