@@ -4,14 +4,14 @@ use Rattle.std.specs.Prelude.{is_none, slice_index_or}
 use Rattle.std.proofs.lemmas.List.{get_or-map}
 use Rattle.std.proofs.lemmas.List.Elements.{All-head, All-tail}
 use Rattle.spec_instructions.specs.Tree.{Own}
-use Rattle.spec_instructions.specs.Fields.{Field, fields}
+use Rattle.spec_instructions.specs.Fields.{fields}
 use Rattle.spec_encoding.specs.Layout.{numbers}
 use Rattle.spec_encoding.specs.PathLayout.{is_open, is_shown, fixed_at, layout}
 use Rattle.spec_encoding.proofs.ByNumbers.{any-range-same}
 use Rattle.spec_lines.specs.LeafFields.{field_text, field_line}
 use Rattle.word_layout.specs.declared.layout.WordLayout.{WordLayout}
 use Rattle.word_layout.specs.Masks.{fixed_by}
-use Rattle.word_layout.specs.Views.{layout_of, numbers_of}
+use Rattle.word_layout.specs.Views.{numbers_of}
 use Rattle.word_layout.proofs.NumberLaws.{numbers-to}
 use Rattle.mrs_arena.specs.Flat.{FlatNode}
 use Rattle.mrs_arena.specs.Placed.{path_to, paths_of, leaves_of}

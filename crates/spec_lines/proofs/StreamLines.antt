@@ -1,5 +1,5 @@
 -- Streams in pieces, in either form: the lines of two parts in a row, the first of whole words.
-use Rattle.std.proofs.Common.{◌≡◌, ℕ, suc, ◌+◌, ◌*◌, List, [], ◌∷◌, ◌++◌, length, refl, sym, arith, append_assoc, length-append, add-zero}
+use Rattle.std.proofs.Common.{◌≡◌, ℕ, suc, ◌+◌, ◌*◌, List, [], ◌∷◌, ◌++◌, length, sym, arith, append_assoc, length-append, add-zero}
 use Rattle.spec_decode.specs.Machine.{Machine}
 use Rattle.spec_lines.specs.Words.{words_in, rest_in}
 use Rattle.spec_lines.specs.Streams.{Form, word_line, word_lines, bytes_line, stream_lines}

@@ -1,4 +1,4 @@
-use Rattle.std.proofs.Common.{◌∙◌, ◌+◌, ◌<◌, ◌≤◌, ℕ, List, length, sym, ap, subst, map, All}
+use Rattle.std.proofs.Common.{◌∙◌, ◌+◌, ◌<◌, ◌≤◌, length, sym, ap, subst, map, All}
 use Rattle.insn_tree.specs.Visible.{FlatField}
 use Rattle.insn_encode.specs.Shown.{field_by}
 use Rattle.insn_encode.proofs.EncodingLaws.{shown-is}

@@ -1,4 +1,4 @@
-use Rattle.std.proofs.Common.{◌≡◌, ◌++◌, ◌+◌, ◌<◌, ◌≤◌, length, flat_map, map, slice_index_or, [], All}
+use Rattle.std.proofs.Common.{◌≡◌, ◌++◌, ◌+◌, ◌<◌, ◌≤◌, length, flat_map, slice_index_or, [], All}
 use Rattle.spec_encoding.specs.Encoding.{own_pairs}
 use Rattle.spec_lines.specs.Pairs.{pair_text}
 use Rattle.insn_tree.specs.Visible.{FlatField}

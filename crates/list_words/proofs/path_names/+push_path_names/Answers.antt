@@ -1,4 +1,4 @@
-use Rattle.std.proofs.Common.{◌≡◌, List, [], ◌++◌, Option, option_map, sym, ap, ◌∙◌, append-nil, ℕ}
+use Rattle.std.proofs.Common.{◌≡◌, List, ◌++◌, Option, option_map, sym, ap, ◌∙◌, append-nil, ℕ}
 use Rattle.mrs_arena.specs.Placed.{text_of}
 use Rattle.mrs_arena.specs.Views.{node_put}
 use Rattle.list_words.proofs.DownLaws.{names_to, names_down-step, name_pushed}
