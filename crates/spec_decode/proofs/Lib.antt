@@ -5,3 +5,4 @@ pub mod HoldLaws
 pub mod BucketLaws
 mod Worked
 mod WorkedBuckets
+mod WorkedPreferred

@@ -1,5 +1,6 @@
 pub mod Worked
 pub mod WorkedPaths
+pub mod WorkedAliases
 pub mod ShapeLaws
 pub mod MergedLaws
 pub mod VisibleLaws
