@@ -5,3 +5,4 @@ pub mod ShapeLaws
 pub mod MergedLaws
 pub mod VisibleLaws
 pub mod LabelLaws
+pub mod AliasLaws
