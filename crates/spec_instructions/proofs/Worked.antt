@@ -11,7 +11,7 @@ use Rattle.spec_expressions.specs.Expression.{Name}
 use Rattle.spec_instructions.specs.Kind.{Set, Group, Leaf, Alias}
 use Rattle.spec_instructions.specs.Tree.{node, no_nodes, more, bare}
 use Rattle.spec_instructions.specs.Paths.{path_name}
-use Rattle.spec_instructions.specs.Reading.{tree_read, paths_read}
+use Rattle.spec_instructions.specs.Reading.{tree_read, paths_read, aliases_read}
 
 -- the names of the leaves of a text, with the set `A64` chosen, or its first fault
 abbrev leaves_in : List ℕ → Option (Result (List (List ℕ)) Fault)
@@ -94,6 +94,12 @@ aliased : option_map (λ d. tree_read (codes "A64") [] d) (read (codes "{\"instr
     ))
 unfolding digits serde_json_on_literals
 aliased = refl
+
+-- the aliases of two leaves, the second of which has one
+two_leaves_aliased : option_map (λ d. aliases_read (codes "A64") [] d) (read (codes "{\"instructions\":[{\"_type\":\"Instruction.InstructionSet\",\"name\":\"A64\",\"children\":[{\"_type\":\"Instruction.Instruction\",\"name\":\"l\"},{\"_type\":\"Instruction.Instruction\",\"name\":\"k\",\"children\":[{\"_type\":\"Instruction.InstructionAlias\",\"name\":\"m\"}]}]}]}"))
+    ≡ Some (Ok (record { leaf = 1; above = bare Set (codes "A64") ∷ bare Leaf (codes "k") ∷ []; own = bare Alias (codes "m") } ∷ []))
+unfolding digits serde_json_on_literals
+two_leaves_aliased = refl
 
 -- the name comes first
 nameless_alias : leaves_in (codes "{\"instructions\":[{\"_type\":\"Instruction.InstructionSet\",\"name\":\"A64\",\"children\":[{\"_type\":\"Instruction.Instruction\",\"name\":\"l\",\"children\":[{\"_type\":\"Instruction.InstructionAlias\",\"preferred\":true}]}]}]}") ≡ at_place (codes "/instructions/0/children/0/children/0") (Missing (codes "name"))
