@@ -1,4 +1,5 @@
 pub mod Verdict
 pub mod Found
+pub mod Preferred
 pub mod Machine
 pub mod Bucket

@@ -1,8 +1,10 @@
-//! Which leaves a word is found at, and with which verdict. Definitions in `specs/`, and laws about them.
+//! Which leaves a word is found at, with which verdict, and which alias of a leaf is preferred. Definitions in `specs/`, and
+//! laws about them.
 #![tactic(auto)]
 
 ghost use Rattle.spec_decode.specs.Verdict.{VerdictsAreExact};
 ghost use Rattle.spec_decode.specs.Found.{FoundIsExact};
+ghost use Rattle.spec_decode.specs.Preferred.{PreferredIsExact, PreferredHasLeafVerdict};
 ghost use Rattle.spec_decode.specs.Bucket.{BucketsAreOne, BucketsHoldFound};
 
 /// A law on verdicts: a path's verdict is No exactly where an item on the path does not hold at the word or a condition
@@ -27,4 +29,12 @@ pub fn buckets_are_one()
 /// bucket's are all that are found.
 pub fn buckets_hold_found()
     ensures { BucketsHoldFound }
+{}
+
+/// Laws on preferred aliases: the preferred alias of a leaf is the first of the leaf whose items hold and whose condition
+/// and preference are both Yes under the fields that are visible at it, and there is none exactly where none is so. The
+/// path of a preferred alias has the verdict of its leaf's path, so it excludes no word that the leaf's does not.
+pub fn preferred_is_exact()
+    ensures exact { PreferredIsExact }
+    ensures verdict { PreferredHasLeafVerdict }
 {}

@@ -9,10 +9,12 @@ use Rattle.spec_bits.specs.Bits.{slice}
 use Rattle.spec_expressions.specs.Scope.{Configuration}
 use Rattle.spec_instructions.specs.Tree.{Own}
 use Rattle.spec_instructions.specs.Fields.{Field}
+use Rattle.spec_instructions.specs.Aliases.{alias_path}
+use Rattle.spec_decode.proofs.PreferredLaws.{preferred_has_leaf_verdict}
 use Rattle.spec_encoding.specs.Parts.{Part}
 use Rattle.spec_encoding.specs.Named.{FieldOf, field_for, is_unknown, is_paired, part_from, parts}
 use Rattle.spec_encoding.specs.PathLayout.{shown, layout, rest_of, excluded_at}
-use Rattle.spec_encoding.specs.Encoding.{named_field, IsFormed, IsValueOf, Encodes, EncodingIsExact, EncodesOneWord, OwnPairsEncode, own_pairs}
+use Rattle.spec_encoding.specs.Encoding.{named_field, IsFormed, IsValueOf, Encodes, EncodingIsExact, EncodesOneWord, OwnPairsEncode, PreferredEncodes, own_pairs}
 use Rattle.spec_encoding.proofs.Members.{In, any-In, In-any, none-any, any-none, All-In, All-each, In-map, map-In, find-In, find-passes, not_none, Any-In, In-Any, AllPairs-head, AllPairs-tail}
 use Rattle.spec_encoding.proofs.NamedLaws.{all_distinct, HasPairs, field-found, encoded-from, encoded-to, at_most_one, own_encodes}
 use Rattle.spec_encoding.proofs.ExclusionLaws.{none-verdict, verdict-none}
@@ -134,3 +136,7 @@ own_pairs_encode path g w formed small verdict =
     encodes-from path g (own_pairs path w) (rest_of path w) w
     (subst (λ ps. HasPairs bytes_eq bytes_eq-Decides (layout path) (excluded_at path g) (map named_field (shown path)) ps (rest_of path w) w) (named-own (shown path) w)
     (own_encodes bytes_eq bytes_eq-Decides (layout path) (excluded_at path g) (map named_field (shown path)) w (path-known path g formed) small (verdict-none path g w verdict)))
+
+pub preferred_encodes : PreferredEncodes
+preferred_encodes aliases k g w i a is at formed small above =
+    own_pairs_encode (alias_path a) g w formed small (λ e. above (sym (preferred_has_leaf_verdict aliases k g w i a is at) ∙ e))

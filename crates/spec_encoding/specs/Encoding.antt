@@ -7,7 +7,9 @@ use Rattle.spec_expressions.specs.Scope.{Configuration}
 use Rattle.spec_instructions.specs.Tree.{Own}
 use Rattle.spec_instructions.specs.Paths.{path_items}
 use Rattle.spec_instructions.specs.Fields.{Field, IsWithinWord}
+use Rattle.spec_instructions.specs.Aliases.{AliasPath, alias_path}
 use Rattle.spec_decode.specs.Verdict.{verdict, condition_truth}
+use Rattle.spec_decode.specs.Preferred.{preferred}
 use Rattle.spec_encoding.specs.Refusal.{Refusal}
 use Rattle.spec_encoding.specs.Named.{FieldOf, encoded}
 use Rattle.spec_encoding.specs.PathLayout.{shown, layout, rest_of, excluded_at}
@@ -55,6 +57,11 @@ own_pairs path w = map (λ f. (f.name, slice w f.start f.width)) (shown path)
 -- a word that a path does not exclude is encoded by its own fields and rest
 abbrev pub OwnPairsEncode : Type 0
 OwnPairsEncode = (path : List Own) (g : Configuration) (w : ℕ) → IsFormed path → w < 2 ^ 32 → verdict path g w ≢ No → Encodes path g (own_pairs path w) (rest_of path w) w
+
+-- a word that a leaf does not exclude is encoded by its fields and rest along the path to the leaf's preferred alias, and so it is the one word that these encode
+abbrev pub PreferredEncodes : Type 0
+PreferredEncodes = (aliases : List AliasPath) (k : ℕ) (g : Configuration) (w i : ℕ) (a : AliasPath) → preferred aliases k g w ≡ Some i → slice_get aliases i ≡ Some a → IsFormed (alias_path a) → w < 2 ^ 32 → verdict a.above g w ≢ No
+    → Encodes (alias_path a) g (own_pairs (alias_path a) w) (rest_of (alias_path a) w) w
 
 -- ---- which node is told
 

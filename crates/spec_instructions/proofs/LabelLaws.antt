@@ -9,7 +9,7 @@ use Rattle.std.proofs.lemmas.Slice.Eq.{bytes_eq-Decides}
 use Rattle.spec_walk.specs.Limits.{leaf_limit}
 use Rattle.spec_instructions.specs.Name.{is_name, is_name_byte}
 use Rattle.spec_instructions.specs.Tree.{Own}
-use Rattle.spec_instructions.specs.Paths.{path_name, namesakes, label, has_label, labelled_leaf, IsFirstLabelled, IsFoundByLabel, LabelsFindLeaves, AreTold, LabelsTellLeaves}
+use Rattle.spec_instructions.specs.Paths.{path_name, namesakes, label, has_label, labelled_path, IsFirstLabelled, IsFoundByLabel, LabelsFindLeaves, AreTold, LabelsTellLeaves}
 
 -- ---- the first number that passes a test
 
@@ -73,7 +73,7 @@ one_first paths text j k f g = go (cases_eq j k)
     go (inl same) = same
     go (inr apart) = open_lower apart
 
-found-by : (paths : List (List Own)) (text : List ℕ) (o : Option ℕ) → labelled_leaf paths text ≡ o → Finds (has_label paths text) 0 (length paths) o → IsFoundByLabel paths text
+found-by : (paths : List (List Own)) (text : List ℕ) (o : Option ℕ) → labelled_path paths text ≡ o → Finds (has_label paths text) 0 (length paths) o → IsFoundByLabel paths text
 found-by paths text None e none = record {
   some = λ k. (λ h. absurd (cc), λ f. absurd (not_labelled paths text k (none k (omega arith) (omega (arith, f.within))) f.has));
   none = (λ _ k within. not_labelled paths text k (none k (omega arith) (omega arith)), λ _. e);
@@ -85,7 +85,7 @@ found-by paths text (Some i) e f =
     }
 
 pub labels_find_leaves : LabelsFindLeaves
-labels_find_leaves paths text = found-by paths text (labelled_leaf paths text) refl (finds (has_label paths text) 0 (length paths))
+labels_find_leaves paths text = found-by paths text (labelled_path paths text) refl (finds (has_label paths text) 0 (length paths))
 
 -- ---- names hold no `#`
 

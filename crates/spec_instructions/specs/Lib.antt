@@ -8,4 +8,5 @@ pub mod Walk
 pub mod Paths
 pub mod Fields
 pub mod Shape
+pub mod Aliases
 pub mod Reading

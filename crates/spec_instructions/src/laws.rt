@@ -2,6 +2,7 @@
 
 ghost use Rattle.spec_instructions.specs.Reading.{FirstFaultDecides, TreesAreSound};
 ghost use Rattle.spec_instructions.specs.Paths.{LabelsFindLeaves, LabelsTellLeaves};
+ghost use Rattle.spec_instructions.specs.Aliases.{AliasesAreBelowLeaves, AliasesAreAll, LabelsTellAliases};
 ghost use Rattle.spec_instructions.specs.Fields.{FieldsAreVisible, MergedIsExact};
 
 /// A law on the walk over a document: what decides is the first of its events that is a fault or passes a limit.
@@ -28,9 +29,18 @@ pub fn merged_is_exact()
     ensures { MergedIsExact }
 {}
 
-/// Laws on labels: by one the first leaf that has it is found. Where the leaves' names are names, which hold no `#`, and
-/// the leaves no more than there may be, as in each document without faults, no two leaves have one label.
+/// Laws on labels of paths: by one the first path that has it is found. Where the paths' names are names, which hold no
+/// `#`, and the paths no more than there may be leaves, as in each document without faults, no two have one label.
 pub fn labels_tell_leaves()
     ensures first { LabelsFindLeaves }
     ensures distinct { LabelsTellLeaves }
+{}
+
+/// Laws on aliases: the path of each is that of its leaf with one node behind it, which is an alias, and the aliases stand
+/// in the order of their leaves. In the tree of an accepted document they are all nodes that are aliases, once and in
+/// document order, and no two have one label.
+pub fn aliases_are_those_of_leaves()
+    ensures below { AliasesAreBelowLeaves }
+    ensures all { AliasesAreAll }
+    ensures labels { LabelsTellAliases }
 {}

@@ -5,4 +5,6 @@
 
 mod laws;
 
-pub use laws::{fields_are_visible, labels_tell_leaves, merged_is_exact};
+pub use laws::{
+    aliases_are_those_of_leaves, fields_are_visible, labels_tell_leaves, merged_is_exact,
+};
