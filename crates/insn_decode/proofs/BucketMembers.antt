@@ -1,5 +1,5 @@
 -- The leaves in a bucket are leaves of the tree, and those found among them are all that are found.
-use Rattle.std.proofs.Common.{◌≡◌, ◌∙◌, sym, ap, subst, refl, ℕ, suc, ◌+◌, ◌<◌, List, [], ◌∷◌, length, map, All, Bool, true, false, cond, arith, Option, Some, None}
+use Rattle.std.proofs.Common.{◌≡◌, ◌∙◌, sym, ap, subst, refl, ℕ, suc, ◌+◌, ◌<◌, ◌≤◌, List, [], ◌∷◌, ◌++◌, length, map, length-append, All, Bool, true, false, cond, arith, Option, Some, None}
 use Rattle.std.specs.Prelude.{slice_index_or, filter}
 use Rattle.std.specs.List.{AllByRecursion}
 use Rattle.std.proofs.lemmas.List.{length-map}
@@ -74,3 +74,17 @@ pub bucket_count : (tree : TreeParts) (d : DeciderParts) (names : List (List ℕ
     → Bucket w other (encodings (tree_paths names tree)) → length members ≡ length other
 bucket_count tree d names w members other of bucket is =
     sym (length-map members encoding_of) ∙ ap (λ (es : List Encoding). length es) (buckets_are_one w (map encoding_of members) other (encodings (tree_paths names tree)) (bucket (encodings (tree_paths names tree)) (of.tells names)) is)
+
+-- no more leaves are without clashes than there are
+few_from : (k : ℕ) (paths : List (List Own)) → length (encodings_from k paths) ≤ length paths
+few_from k [] = omega arith
+few_from k (path ∷ paths) = go (merged path) (few_from (k + 1) paths)
+  where
+    go : (o : Option (List Digit)) → length (encodings_from (k + 1) paths) ≤ length paths → length (with_encoding k o (encodings_from (k + 1) paths)) ≤ length (path ∷ paths)
+    go None rest = omega (arith, rest)
+    go (Some digits) rest = omega (arith, rest)
+
+pub few_members : (tree : TreeParts) (members : List Member) (rest : List Encoding) (limit : ℕ) → length (leaves_of tree.nodes) ≤ limit → map encoding_of members ++ rest ≡ encodings (tree_paths [] tree) → length members ≤ limit
+few_members tree members rest limit few is =
+    let same : length (map encoding_of members ++ rest) ≡ length (encodings (tree_paths [] tree)) = ap (λ (es : List Encoding). length es) is in
+    omega (arith, few, same, length-append (map encoding_of members) rest, length-map members encoding_of, few_from 0 (tree_paths [] tree), length-map (leaves_of tree.nodes) (path_to [] tree.nodes))

@@ -1,5 +1,5 @@
 -- The leaves of a bucket that are found, one after another.
-use Rattle.std.proofs.Common.{◌≡◌, ◌∙◌, sym, ap, subst, refl, ℕ, suc, ◌+◌, ◌<◌, List, [], ◌∷◌, ◌++◌, length, map, drop, get_or, All, false, arith, drop-cons, append_assoc}
+use Rattle.std.proofs.Common.{◌≡◌, ◌∙◌, sym, ap, subst, refl, ℕ, suc, ◌+◌, ◌<◌, List, [], ◌∷◌, ◌++◌, length, map, drop, get_or, All, Bool, false, true, arith, drop-cons, append_assoc}
 use Rattle.std.proofs.lemmas.List.{get_or-map, length-map}
 use Rattle.spec_bits.specs.Pattern.{pattern_holds}
 use Rattle.spec_expressions.specs.Truth.{Truth, Yes, No, Open}
@@ -16,17 +16,22 @@ use Rattle.insn_decode.specs.declared.member.Member.{Member}
 use Rattle.insn_decode.specs.Members.{encoding_of}
 use Rattle.insn_decode.specs.Judged.{IsMemberOf}
 
--- where a leaf's digits do not hold at the word, an item on its path does not
-pub path_fails : (tree : TreeParts) (e : Encoding) (names : List (List ℕ)) (w : ℕ) → IsMemberOf tree e → pattern_holds e.digits w ≡ false → path_holds (path_at names tree e.leaf) w ≡ false
-path_fails tree e names w is fails =
+-- a leaf's digits hold at the word exactly where all items on its path do
+pub path_by_digits : (tree : TreeParts) (e : Encoding) (names : List (List ℕ)) (w : ℕ) (holds : Bool) → IsMemberOf tree e → pattern_holds e.digits w ≡ holds → path_holds (path_at names tree e.leaf) w ≡ holds
+path_by_digits tree e names w holds is digits =
     let path : List Own = path_at names tree e.leaf in
-    let holds : holds_of (merged path) w ≡ path_holds path w = (joined-all w (path_items path) (is.within names)).holds in
-    sym holds ∙ ap (λ o. holds_of o w) (is.fixed names) ∙ fails
+    let all : holds_of (merged path) w ≡ path_holds path w = (joined-all w (path_items path) (is.within names)).holds in
+    sym all ∙ ap (λ o. holds_of o w) (is.fixed names) ∙ digits
 
--- and so it is excluded
+-- where they do not, it is excluded
 pub excluded : (tree : TreeParts) (e : Encoding) (names : List (List ℕ)) (g : Configuration) (w : ℕ) → IsMemberOf tree e → pattern_holds e.digits w ≡ false → verdict (path_at names tree e.leaf) g w ≡ No
 excluded tree e names g w is fails =
-    ap (λ b. by_items b (conditions_from [] (path_at names tree e.leaf) g w)) (path_fails tree e names w is fails)
+    ap (λ b. by_items b (conditions_from [] (path_at names tree e.leaf) g w)) (path_by_digits tree e names w false is fails)
+
+-- where they do, its conditions decide
+pub decided : (tree : TreeParts) (e : Encoding) (names : List (List ℕ)) (g : Configuration) (w : ℕ) (t : Truth) → IsMemberOf tree e → pattern_holds e.digits w ≡ true → t ≡ conditions_from [] (path_at names tree e.leaf) g w → t ≡ verdict (path_at names tree e.leaf) g w
+decided tree e names g w t is holds h =
+    h ∙ ap (λ b. by_items b (conditions_from [] (path_at names tree e.leaf) g w)) (sym (path_by_digits tree e names w true is holds))
 
 with_append : (k : ℕ) (t : Truth) (rest : List Candidate) → with_leaf k t rest ≡ with_leaf k t [] ++ rest
 with_append k Yes rest = refl

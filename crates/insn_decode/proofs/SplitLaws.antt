@@ -1,5 +1,5 @@
 -- The bit that is looked at next, from the highest down, and the leaves on either side of it.
-use Rattle.std.proofs.Common.{◌≡◌, ◌∙◌, sym, ap, refl, ℕ, zero, suc, ◌<◌, ◌≤◌, Bool, true, false, cond, ◌||◌, ◌==◌, List, [], ◌∷◌, length, map, Option, Some, None, arith, ◌⊎◌, inl, inr}
+use Rattle.std.proofs.Common.{◌≡◌, ◌∙◌, sym, ap, refl, ℕ, zero, suc, ◌+◌, ◌<◌, ◌≤◌, Bool, true, false, cond, ◌||◌, ◌==◌, List, [], ◌∷◌, length, map, Option, Some, None, arith, ◌⊎◌, inl, inr}
 use Rattle.std.specs.Prelude.{IfSome, filter}
 use Rattle.std.specs.List.{list_any}
 use Rattle.std.proofs.lemmas.List.{length-map}
@@ -75,6 +75,54 @@ fewer i v es next small = go (cases v small)
         shorter (fixes_to i v) (fixes_to i 1) (λ e one. one_value i 1 v e (λ same. let no : 1 ≡ 0 = same ∙ is in absurd (cc no)) one) es (next_bit_splits i es next).1.one_too
     go (inr is) =
         shorter (fixes_to i v) (fixes_to i 0) (λ e one. one_value i 0 v e (λ same. let no : 0 ≡ 1 = same ∙ is in absurd (cc no)) one) es (next_bit_splits i es next).1.zero_too
+
+-- ---- the two sides have no more leaves than there are, and each has one
+
+passes_one : (p : Encoding → Bool) (es : List Encoding) → list_any p es ≡ true → 1 ≤ length (filter p es)
+passes_one p [] some = absurd cc
+passes_one p (e ∷ es) some = go (p e) (passes_one p es) some
+  where
+    go : (b : Bool) → (list_any p es ≡ true → 1 ≤ length (filter p es)) → (b || list_any p es) ≡ true → 1 ≤ length (cond b (e ∷ filter p es) (filter p es))
+    go true rest some = omega arith
+    go false rest some = rest some
+
+shared_out : (p q : Encoding → Bool) → ((e : Encoding) → p e ≡ true → q e ≡ false) → (es : List Encoding) → length (filter p es) + length (filter q es) ≤ length es
+shared_out p q out [] = omega arith
+shared_out p q out (e ∷ es) = go (p e) refl (q e) refl (shared_out p q out es)
+  where
+    go : (b : Bool) → p e ≡ b → (c : Bool) → q e ≡ c → length (filter p es) + length (filter q es) ≤ length es
+        → length (cond b (e ∷ filter p es) (filter p es)) + length (cond c (e ∷ filter q es) (filter q es)) ≤ length (e ∷ es)
+    go true is true also rest = absurd (let none : q e ≡ false = out e is in cc (none, also))
+    go true is false also rest = omega (arith, rest)
+    go false is true also rest = omega (arith, rest)
+    go false is false also rest = omega (arith, rest)
+
+pub record AreSides (zeros ones all : ℕ) : Type 0 where
+  pub zero_too : 1 ≤ zeros
+  pub one_too : 1 ≤ ones
+  pub together : zeros + ones ≤ all
+
+sides : (i : ℕ) (es : List Encoding) → next_bit es ≡ Some i → AreSides (length (agreeing i 0 es)) (length (agreeing i 1 es)) (length es)
+unfolding agreeing
+sides i es next =
+    let h = (next_bit_splits i es next).1 in
+    record {
+      zero_too = passes_one (fixes_to i 0) es h.zero_too;
+      one_too = passes_one (fixes_to i 1) es h.one_too;
+      together = shared_out (fixes_to i 0) (fixes_to i 1) (λ e is. one_value i 0 1 e (λ same. absurd (cc same)) is) es;
+    }
+
+pub sides_of : (i : ℕ) (members zeros ones : List Member) → next_bit (map encoding_of members) ≡ Some i → map encoding_of zeros ≡ agreeing i 0 (map encoding_of members) → map encoding_of ones ≡ agreeing i 1 (map encoding_of members)
+    → AreSides (length zeros) (length ones) (length members)
+sides_of i members zeros ones next low high =
+    let h = sides i (map encoding_of members) next in
+    let lows : length (map encoding_of zeros) ≡ length (agreeing i 0 (map encoding_of members)) = ap (λ (es : List Encoding). length es) low in
+    let highs : length (map encoding_of ones) ≡ length (agreeing i 1 (map encoding_of members)) = ap (λ (es : List Encoding). length es) high in
+    record {
+      zero_too = omega (arith, h.zero_too, lows, length-map zeros encoding_of);
+      one_too = omega (arith, h.one_too, highs, length-map ones encoding_of);
+      together = omega (arith, h.together, lows, highs, length-map zeros encoding_of, length-map ones encoding_of, length-map members encoding_of);
+    }
 
 pub side_fewer : (i v : ℕ) (members some : List Member) → next_bit (map encoding_of members) ≡ Some i → v ≤ 1 → map encoding_of some ≡ agreeing i v (map encoding_of members) → length some < length members
 side_fewer i v members some next small is =

@@ -1,5 +1,5 @@
 -- Which leaves a tree of bit tests in flat arrays tells apart.
-use Rattle.std.specs.Prelude.{◌≡◌, ◌<◌, ◌≤◌, ℕ, List, ◌++◌, length, slice_get, slice_range, Some, None}
+use Rattle.std.specs.Prelude.{◌≡◌, ◌<◌, ◌≤◌, ◌+◌, ◌*◌, ◌-◌, ℕ, List, ◌++◌, length, slice_get, slice_range, Some, None}
 use Rattle.spec_decode.specs.Bucket.{Encoding, next_bit, agreeing, Bucket}
 use Rattle.insn_decode.specs.declared.node.Node.{Node}
 use Rattle.insn_decode.specs.declared.node.Node.TheVariants.{Leaves, Test}
@@ -19,3 +19,7 @@ IsRun order w from to es = Bucket w (slice_range order from to) es
 -- a list with more behind it
 abbrev pub Extends : {X : Type 0} → List X → List X → Type 0
 Extends {X} before after = (more : List X) × (after ≡ before ++ more)
+
+-- the most nodes that tell so many leaves apart: a bucket for each, and a test between each two; one bucket for none
+abbrev pub most_nodes : ℕ → ℕ
+most_nodes n = 1 + 2 * (n - 1)

@@ -23,7 +23,7 @@ pub struct Decider {
     nodes: Vec<Node>,
     order: Vec<Member>,
     leaves: Vec<LeafId>,
-    root: usize,
+    root: u32,
 }
 
 impl Model for Decider {
@@ -43,6 +43,7 @@ impl Decider {
     ghost use Rattle.std.specs.Prelude.{◌≡◌, ◌<◌, ◌≤◌, ◌+◌, ℕ, List, IfOk, length, map};
     ghost use Rattle.spec_decode.specs.Bucket.{Encoding, Bucket, encodings};
     ghost use Rattle.spec_decode.specs.Found.{found};
+    ghost use Rattle.spec_walk.specs.Limits.{node_limit};
     ghost use Rattle.mrs_arena.specs.Placed.{text_of};
     ghost use Rattle.ast_eval.specs.Choices.{configuration_of};
     ghost use Rattle.insn_tree.specs.Trees.{tree_paths};
@@ -62,6 +63,7 @@ impl Decider {
 
     /// The decision tree over these leaves.
     pub(crate) fn over(alloc: Global, members: &[Member]) -> Result<Decider, NoMemory>
+        requires { length members.now ≤ node_limit }
         ensures { IfOk result (λ d. Tells d (map encoding_of members.now)) }
     {
         let mut nodes = Vec::new(alloc);

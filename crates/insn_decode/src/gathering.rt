@@ -1,8 +1,9 @@
 //! The leaves of a tree with what their paths fix.
 
-ghost use Rattle.std.specs.Prelude.{◌≡◌, ◌<◌, ◌++◌, [], ℕ, List, IfOk, OnOk, length, map};
+ghost use Rattle.std.specs.Prelude.{◌≡◌, ◌<◌, ◌≤◌, ◌++◌, [], ℕ, List, IfOk, OnOk, length, map};
 ghost use Rattle.spec_instructions.specs.Fields.{merged};
 ghost use Rattle.spec_decode.specs.Bucket.{encodings, with_encoding, AreWithinWord};
+ghost use Rattle.spec_walk.specs.Limits.{node_limit};
 ghost use Rattle.mrs_arena.specs.Placed.{leaves_of};
 ghost use Rattle.insn_tree.specs.Trees.{tree_paths, path_at};
 ghost use Rattle.insn_decode.specs.Members.{encoding_of};
@@ -40,6 +41,7 @@ fn push_member(members: &mut Vec<Member>, tree: &Tree, leaf: LeafId) -> Result<(
 
 /// The leaves of a tree, without those whose items clash, in order, with what their paths fix.
 pub(crate) fn gather(alloc: Global, tree: &Tree) -> Result<Vec<Member>, NoMemory>
+    ensures few { IfOk result (λ members. length members.items ≤ node_limit) }
     ensures within { OnOk result ((names : List (List ℕ)) → AreWithinWord (tree_paths names tree.now)) }
     ensures members { IfOk result (λ members. (names : List (List ℕ)) → map encoding_of members.items ≡ encodings (tree_paths names tree.now)) }
 {

@@ -1,9 +1,9 @@
 //! Growing the decision tree.
 
-ghost use Rattle.std.specs.Prelude.{◌≡◌, ◌∷◌, ◌++◌, [], IfOk, OnOk, None, length, map};
+ghost use Rattle.std.specs.Prelude.{◌≡◌, ◌<◌, ◌≤◌, ◌+◌, ◌^◌, ◌∷◌, ◌++◌, [], IfOk, OnOk, None, length, map};
 ghost use Rattle.spec_decode.specs.Bucket.{next_bit};
 ghost use Rattle.insn_decode.specs.Members.{encoding_of};
-ghost use Rattle.insn_decode.specs.Decides.{Decides, Extends};
+ghost use Rattle.insn_decode.specs.Decides.{Decides, Extends, most_nodes};
 ghost use Rattle.insn_decode.specs.declared.node.Node.TheVariants.{Leaves, Test};
 
 use crate::member::Member;
@@ -13,11 +13,12 @@ use insn_tree::NoMemory;
 use std::alloc::Global;
 
 /// Puts a node behind the others, and gives its number.
-fn push_node(nodes: &mut Vec<Node>, node: Node) -> Result<usize, NoMemory>
+fn push_node(nodes: &mut Vec<Node>, node: Node) -> Result<u32, NoMemory>
+    requires { length nodes.now.items < 2 ^ 32 }
     ensures number { IfOk result (λ k. k ≡ length nodes.old.items) }
     ensures nodes { OnOk result (nodes.new.items ≡ nodes.old.items ++ node ∷ []) }
 {
-    let number = nodes.len();
+    let number = nodes.len() as u32;
     nodes.push(node)?;
     Ok(number)
 }
@@ -27,15 +28,19 @@ fn push_leaves(
     nodes: &mut Vec<Node>,
     order: &mut Vec<Member>,
     members: &[Member],
-) -> Result<usize, NoMemory>
-    requires { next_bit (map encoding_of members.now) ≡ None }
+) -> Result<u32, NoMemory>
+    requires none { next_bit (map encoding_of members.now) ≡ None }
+    requires number { length nodes.now.items < 2 ^ 32 }
+    requires places { length order.now.items + length members.now < 2 ^ 32 }
     ensures decides { IfOk result (λ k. Decides nodes.new.items (map encoding_of order.new.items) k (map encoding_of members.now)) }
     ensures nodes { OnOk result (Extends nodes.old.items nodes.new.items) }
     ensures order { OnOk result (Extends order.old.items order.new.items) }
+    ensures one { OnOk result (length nodes.new.items ≡ length nodes.old.items + 1) }
+    ensures places { OnOk result (length order.new.items ≡ length order.old.items + length members.now) }
 {
-    let from = order.len();
+    let from = order.len() as u32;
     order.extend_from_slice(members)?;
-    let to = order.len();
+    let to = order.len() as u32;
     push_node(nodes, Node::Leaves { from, to })
 }
 
@@ -45,10 +50,14 @@ pub(crate) fn grow(
     nodes: &mut Vec<Node>,
     order: &mut Vec<Member>,
     members: &[Member],
-) -> Result<usize, NoMemory>
+) -> Result<u32, NoMemory>
+    requires nodes { length nodes.now.items + most_nodes (length members.now) ≤ 2 ^ 32 }
+    requires places { length order.now.items + length members.now < 2 ^ 32 }
     ensures decides { IfOk result (λ k. Decides nodes.new.items (map encoding_of order.new.items) k (map encoding_of members.now)) }
     ensures nodes { OnOk result (Extends nodes.old.items nodes.new.items) }
     ensures order { OnOk result (Extends order.old.items order.new.items) }
+    ensures few { OnOk result (length nodes.new.items ≤ length nodes.old.items + most_nodes (length members.now)) }
+    ensures places { OnOk result (length order.new.items ≤ length order.old.items + length members.now) }
 {
     let Some(bit) = next_bit(members) else {
         return push_leaves(nodes, order, members);

@@ -35,7 +35,7 @@ pub(crate) fn verdict_of<L: Ledger>(
     if !member.holds(w) {
         return Truth::No;
     }
-    tree.leaf_truth(member.leaf, w, config, steps)
+    tree.conditions_truth(member.leaf, w, config, steps)
 }
 
 /// The verdict of a leaf on a word, with steps that are counted for nobody.

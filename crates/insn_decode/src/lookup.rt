@@ -20,7 +20,7 @@ pub(crate) struct Run {
 }
 
 /// The node that follows a test of bit `i`.
-fn followed(w: u32, i: u8, zero: usize, one: usize) -> usize
+fn followed(w: u32, i: u8, zero: u32, one: u32) -> u32
     requires { i < 32 }
     ensures { result ≡ (if bit_of w i == 0 then zero else one) }
 {
@@ -31,7 +31,7 @@ fn followed(w: u32, i: u8, zero: usize, one: usize) -> usize
 pub(crate) fn find_run<L: Ledger>(
     nodes: &[Node],
     order: &[Member],
-    root: usize,
+    root: u32,
     w: u32,
     steps: &mut Steps<L>,
 ) -> Run
@@ -43,7 +43,12 @@ pub(crate) fn find_run<L: Ledger>(
     let mut k = root;
     'down: loop {
         match node_at(nodes, k) {
-            Node::Leaves { from, to } => return Run { from, to },
+            Node::Leaves { from, to } => {
+                return Run {
+                    from: from as usize,
+                    to: to as usize,
+                };
+            }
             Node::Test { bit, zero, one } => {
                 steps.tick();
                 k = followed(w, bit, zero, one);

@@ -90,6 +90,7 @@ fn buckets_are_found(rt: HostRuntime) -> Result<(), Fail> {
     let alloc = rt.alloc();
     for (fixed, w, expected) in ROWS {
         let members = members_of(&rt, alloc, fixed)?;
+        assert!(rt; members.len() <= 100);
         let decider = Decider::over(alloc, &members)?;
         let found = bucket::<Brand>(alloc, &decider, w, Blank::new(1))?;
         assert_eq!(rt; found.as_slice(), expected);

@@ -8,7 +8,7 @@ use Rattle.spec_expressions.specs.Truth.{conjunction}
 use Rattle.spec_expressions.specs.Scope.{Configuration, Field}
 use Rattle.spec_expressions.specs.Value as worth
 use Rattle.spec_instructions.specs.Fields.{fields}
-use Rattle.spec_decode.specs.Verdict.{path_holds, conditions_from, by_items, verdict}
+use Rattle.spec_decode.specs.Verdict.{conditions_from}
 use Rattle.mrs_arena.specs.declared.node_id.NodeId.{NodeId}
 use Rattle.mrs_arena.specs.declared.expr_id.ExprId.{ExprId}
 use Rattle.mrs_arena.specs.Flat.{FlatNode, FlatItem, ArenaNode}
@@ -65,18 +65,15 @@ module _ (nodes : List FlatNode) (exprs : List (ExprOf ℕ)) (n : ℕ) (node : A
       ∙ ap (conjunction (conditions_from [] (path_above names nodes node.parent) (configuration_of (text_of names) c) w)) (own names found items t same is fields_are told held)
       ∙ sym (conditions-step names nodes n (node_put exprs node) at before (configuration_of (text_of names) c) w)
 
--- ---- the verdict of a leaf
+-- ---- the conditions along a leaf's path
 
 module _ (names : List (List ℕ)) (nodes : List FlatNode) (g : Configuration) (w l n : ℕ) (leaf : slice_get (leaves_of nodes) l ≡ Some n) where
   path_of : slice_index_or (paths_of names nodes) l [] ≡ path_to names nodes n
   path_of = get_or-mapped (path_to names nodes) (leaves_of nodes) l n [] leaf
 
-  -- where all items hold, the conditions decide
-  pub verdict_conditions : (holds : Bool) (t : truth.Truth) → holds ≡ path_holds (slice_index_or (paths_of names nodes) l []) w → holds ≡ true → t ≡ conditions_at names nodes g w n → t ≡ verdict (slice_index_or (paths_of names nodes) l []) g w
-  verdict_conditions holds t is all h =
-      h
-      ∙ ap (λ path. conditions_from [] path g w) (sym path_of)
-      ∙ ap (λ b. by_items b (conditions_from [] (slice_index_or (paths_of names nodes) l []) g w)) (sym all ∙ is)
+  -- the conditions along the leaf's path are those down to its node
+  pub leaf_conditions_are : (t : truth.Truth) → t ≡ conditions_at names nodes g w n → t ≡ conditions_from [] (slice_index_or (paths_of names nodes) l []) g w
+  leaf_conditions_are t h = h ∙ ap (λ path. conditions_from [] path g w) (sym path_of)
 
   -- on a path without conditions
   pub no_conditions_at : (flags : List Bool) (flag : Bool) → flags ≡ map (is_conditioned nodes) (leaves_of nodes) → flag ≡ slice_index_or flags l flag → flag ≡ false → truth.Yes ≡ conditions_at names nodes g w n

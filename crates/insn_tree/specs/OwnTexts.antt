@@ -33,3 +33,7 @@ node_verdict nodes c w n =
 
 abbrev pub leaf_verdict : TreeParts → Choices → ℕ → ℕ → Truth
 leaf_verdict tree c w l = node_verdict tree.nodes c w (slice_index_or (leaves_of tree.nodes) l 0)
+
+-- what the conditions along the path to leaf l say
+abbrev pub leaf_conditions : TreeParts → Choices → ℕ → ℕ → Truth
+leaf_conditions tree c w l = conditions_up tree.nodes c w (ancestors (parents_of tree.nodes) (slice_index_or (leaves_of tree.nodes) l 0))

@@ -1,7 +1,7 @@
 -- What paths of an arena say of a word, by the texts of any names that are held.
-use Rattle.std.specs.Prelude.{◌≡◌, ◌<◌, ℕ, List, length, All}
+use Rattle.std.specs.Prelude.{◌≡◌, ◌<◌, ℕ, List, [], length, All}
 use Rattle.spec_expressions.specs.Truth.{Truth}
-use Rattle.spec_decode.specs.Verdict.{verdict}
+use Rattle.spec_decode.specs.Verdict.{conditions_from, verdict}
 use Rattle.mrs_names.specs.Texts.{AreNames}
 use Rattle.mrs_arena.specs.Flat.{FlatNode}
 use Rattle.mrs_arena.specs.Placed.{text_of, AreHeld}
@@ -22,3 +22,7 @@ AreConditions nodes n c w t = (names : List (List ℕ)) → AreHeldBy names node
 -- the truth is the verdict of the path to leaf l
 abbrev pub IsVerdictOf : TreeParts → ℕ → Choices → ℕ → Truth → Type 0
 IsVerdictOf tree l c w t = (names : List (List ℕ)) → AreHeldBy names tree.nodes c → t ≡ verdict (path_at names tree l) (configuration_of (text_of names) c) w
+
+-- the truth is that of the conditions along the path to leaf l
+abbrev pub AreConditionsOf : TreeParts → ℕ → Choices → ℕ → Truth → Type 0
+AreConditionsOf tree l c w t = (names : List (List ℕ)) → AreHeldBy names tree.nodes c → t ≡ conditions_from [] (path_at names tree l) (configuration_of (text_of names) c) w

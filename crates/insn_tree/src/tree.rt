@@ -57,8 +57,9 @@ impl Tree {
     ghost use Rattle.word_layout.specs.Views.{numbers_of};
     ghost use Rattle.spec_decode.specs.Verdict.{path_holds};
     ghost use Rattle.ast_eval.specs.Views.{truth_of};
-    ghost use Rattle.insn_tree.specs.OwnTexts.{leaf_verdict};
-    ghost use Rattle.insn_tree.specs.Verdicts.{IsVerdictOf};
+    ghost use Rattle.spec_walk.specs.Limits.{node_limit};
+    ghost use Rattle.insn_tree.specs.OwnTexts.{leaf_conditions, leaf_verdict};
+    ghost use Rattle.insn_tree.specs.Verdicts.{AreConditionsOf, IsVerdictOf};
     ghost use Rattle.spec_decode.specs.Bucket.{AreWithinWord};
     ghost use Rattle.insn_tree.specs.Trees.{IsOf, tree_paths, path_at, label_text, label_number, field_of, IsLeafAbove};
 
@@ -92,6 +93,7 @@ impl Tree {
     /// How many leaves there are. The items along the paths to them lie within the word.
     pub fn leaves(&self) -> u32
         ensures count { result ≡ length (leaves_of self.now.nodes) }
+        ensures few { result ≤ node_limit }
         ensures within { (names : List (List ℕ)) → AreWithinWord (tree_paths names self.now) }
     {
         self.leaves.nodes.len() as u32
@@ -202,10 +204,31 @@ impl Tree {
         if !self.items_hold(l, w) {
             return Truth::No;
         }
-        if !self.leaves.conditioned[l.0 as usize] {
-            return Truth::Yes;
-        }
-        conditions_hold(&self.arena, self.leaf_node(l), config, w)
+        self.conditions(l, w, config)
+    }
+
+    /// What the conditions along a leaf's path say of the word `w`, together: `No` where one is `No`, `Yes` where all are
+    /// `Yes`, and else `Open`. Each sees the fields that are visible at its own node. Where all items on the path hold at the
+    /// word, that is the verdict of `leaf_truth`. The items are not looked at. This is one step.
+    ///
+    /// The tree, the configuration and the names by which they are read are of one release.
+    pub fn conditions_truth<L: Ledger>(
+        &self,
+        l: LeafId,
+        w: u32,
+        config: &Config,
+        steps: &mut Steps<L>,
+    ) -> Truth
+        requires { l.0 < length (leaves_of self.now.nodes) }
+        ensures truth { AreConditionsOf self.now l.0 config.now w (truth_of result) }
+
+        // where each number of a name stands for a text of its own
+        ensures own { truth_of result ≡ leaf_conditions self.now config.now w l.0 }
+
+        ensures step { steps.new ≡ steps.old + 1 }
+    {
+        steps.tick();
+        self.conditions(l, w, config)
     }
 
     /// What the path says of the bits of words: which are fixed, each to the value of the first item that fixes it, which are
@@ -235,6 +258,18 @@ impl Tree {
             → result ≡ default_bits (path_at names self.now l.0) }
     {
         self.layout(l).default
+    }
+
+    /// What the conditions along a leaf's path say of the word `w`.
+    fn conditions(&self, l: LeafId, w: u32, config: &Config) -> Truth
+        requires { l.0 < length (leaves_of self.now.nodes) }
+        ensures truth { AreConditionsOf self.now l.0 config.now w (truth_of result) }
+        ensures own { truth_of result ≡ leaf_conditions self.now config.now w l.0 }
+    {
+        if !self.leaves.conditioned[l.0 as usize] {
+            return Truth::Yes;
+        }
+        conditions_hold(&self.arena, self.leaf_node(l), config, w)
     }
 
     /// Whether all items along the leaf's path hold at the word `w`.

@@ -1,49 +1,20 @@
-use Rattle.std.proofs.Common.{◌≡◌, ◌∙◌, sym, ap, subst, slice_index_or, ℕ, List, []}
-use Rattle.std.proofs.lemmas.Option.{slice_get-get_or, get_or_from_slice_get}
-use Rattle.mrs_arena.specs.Placed.{text_of, leaves_of}
+use Rattle.std.proofs.Common.{◌∙◌, sym, ap, []}
+use Rattle.spec_decode.specs.Verdict.{conditions_from, by_items}
+use Rattle.mrs_arena.specs.Placed.{text_of}
 use Rattle.ast_eval.specs.Choices.{configuration_of}
-use Rattle.ast_eval.specs.Views.{truth_of}
-use Rattle.insn_tree.specs.Verdicts.{AreConditions}
-use Rattle.insn_tree.specs.Trees.{TreeParts}
-use Rattle.insn_tree.proofs.KeptLaws.{AreLeaves-of}
-use Rattle.insn_tree.proofs.TruthLaws.{verdict_conditions, no_conditions_at}
-use Rattle.mrs_arena.specs.Flat.{FlatNode}
-use Rattle.mrs_arena.specs.Nodes.{parents_of}
-use Rattle.mrs_arena.specs.Paths.{ancestors}
-use Rattle.insn_tree.specs.OwnTexts.{conditions_up}
-use Rattle.insn_tree.proofs.OwnTextLaws.{leaf_excluded, leaf_decided, leaf_free}
+use Rattle.insn_tree.specs.Trees.{path_at}
+use Rattle.insn_tree.proofs.OwnTextLaws.{leaf_excluded, leaf_decided}
 use Rattle.insn_tree.proofs.tree.Tree.leaf_truth.Goals as goal
-
-pub returns-then-not-index-clause-truth : goal.returns-then-not-index-clause-truth
-returns-then-not-index-clause-truth g c names held =
-    let nodes = c.args.self.now.nodes in
-    let l = c.args.l.0 in
-    let kept = AreLeaves-of c.self.inside.leaves c.self.inside.arena.nodes nodes (ap (λ (t : TreeParts). t.nodes) c.self.view_is) c.self.invariant.0 in
-    let leaf = slice_get-get_or (leaves_of nodes) l 0 c.requires in
-    let yes = no_conditions_at names nodes (configuration_of (text_of names) c.args.config.now) c.args.w l (slice_index_or (leaves_of nodes) l 0) leaf c.self.inside.leaves.conditioned.items c.index.result.now kept.conditioned_are c.index.ensures c.if-not-index.true in
-    verdict_conditions names nodes (configuration_of (text_of names) c.args.config.now) c.args.w l (slice_index_or (leaves_of nodes) l 0) leaf c.items_hold.result _ (c.items_hold.ensures names) c.if-not-items_hold.false yes
 
 pub returns-clause-truth : goal.returns-clause-truth
 returns-clause-truth g c names held =
-    let nodes = c.args.self.now.nodes in
-    let told = subst (λ ns. AreConditions ns c.leaf_node.result.0 c.args.config.now c.args.w (truth_of c.conditions_hold.result)) (ap (λ (t : TreeParts). t.nodes) c.self.view_is) c.conditions_hold.ensures.named in
-    verdict_conditions names nodes (configuration_of (text_of names) c.args.config.now) c.args.w c.args.l.0 c.leaf_node.result.0 c.leaf_node.ensures.node c.items_hold.result _ (c.items_hold.ensures names) c.if-not-items_hold.false (told names held)
+    c.conditions.ensures.truth names held
+    ∙ ap (λ b. by_items b (conditions_from [] (path_at names c.args.self.now c.args.l.0) (configuration_of (text_of names) c.args.config.now) c.args.w)) (sym (sym (c.items_hold.ensures names) ∙ c.if-not-items_hold.false))
 
 pub returns-then-not-items_hold-clause-own : goal.returns-then-not-items_hold-clause-own
 returns-then-not-items_hold-clause-own g c =
     sym (leaf_excluded [] c.args.self.now c.args.config.now c.args.w c.args.l.0 c.requires (sym (c.items_hold.ensures []) ∙ c.if-not-items_hold.true))
 
-pub returns-then-not-index-clause-own : goal.returns-then-not-index-clause-own
-returns-then-not-index-clause-own g c =
-    let nodes = c.args.self.now.nodes in
-    let kept = AreLeaves-of c.self.inside.leaves c.self.inside.arena.nodes nodes (ap (λ (t : TreeParts). t.nodes) c.self.view_is) c.self.invariant.0 in
-    sym (leaf_decided [] c.args.self.now c.args.config.now c.args.w c.args.l.0 c.requires (sym (c.items_hold.ensures []) ∙ c.if-not-items_hold.false)
-    ∙ leaf_free nodes c.args.config.now c.args.w c.args.l.0 c.requires c.self.inside.leaves.conditioned.items c.index.result.now kept.conditioned_are c.index.ensures c.if-not-index.true)
-
 pub returns-clause-own : goal.returns-clause-own
 returns-clause-own g c =
-    let nodes = c.args.self.now.nodes in
-    let told = subst (λ (ns : List FlatNode). truth_of c.conditions_hold.result ≡ conditions_up ns c.args.config.now c.args.w (ancestors (parents_of ns) c.leaf_node.result.0)) (ap (λ (t : TreeParts). t.nodes) c.self.view_is) c.conditions_hold.ensures.own in
-    told
-    ∙ ap (λ (n : ℕ). conditions_up nodes c.args.config.now c.args.w (ancestors (parents_of nodes) n)) (sym (get_or_from_slice_get (leaves_of nodes) c.args.l.0 c.leaf_node.result.0 0 c.leaf_node.ensures.node))
-    ∙ sym (leaf_decided [] c.args.self.now c.args.config.now c.args.w c.args.l.0 c.requires (sym (c.items_hold.ensures []) ∙ c.if-not-items_hold.false))
+    c.conditions.ensures.own ∙ sym (leaf_decided [] c.args.self.now c.args.config.now c.args.w c.args.l.0 c.requires (sym (c.items_hold.ensures []) ∙ c.if-not-items_hold.false))

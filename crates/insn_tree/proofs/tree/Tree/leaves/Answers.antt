@@ -16,3 +16,9 @@ overflow_cast-result c =
 pub returns-clause-within : goal.returns-clause-within
 returns-clause-within c names =
     paths_within names c.args.self.now.nodes (AreLeaves-of c.self.inside.leaves c.self.inside.arena.nodes c.args.self.now.nodes (ap (λ (t : TreeParts). t.nodes) c.self.view_is) c.self.invariant.0).formed
+
+pub returns-clause-few : goal.returns-clause-few
+returns-clause-few c =
+    let kept = c.self.invariant.0 in
+    let nodes = c.self.inside.arena.nodes in
+    omega (arith, c.len.ensures, c.self.inside.leaves.nodes.ok.0, few_kept is_leaf nodes kept.formed c.self.inside.leaves.nodes.items (leaves_of nodes) kept.nodes_are (kept_few (has_kind is_leaf nodes) (length nodes)))
