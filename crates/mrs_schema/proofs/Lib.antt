@@ -16,3 +16,5 @@ pub mod SetLaws
 pub mod ShapedLaws
 pub mod ReleaseLaws
 pub mod ConstraintLaws
+pub mod ParamReadLaws
+pub mod FeatureLaws
