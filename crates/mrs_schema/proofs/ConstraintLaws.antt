@@ -3,7 +3,7 @@ use Rattle.std.proofs.Common.{◌≡◌, ◌∙◌, ap, ℕ, ◌<◌, ◌≤◌,
 use Rattle.serde_json.specs.View.{view, items_view}
 use Rattle.serde_json.specs.declared.value.Value.{Value}
 use Rattle.spec_walk.specs.Pointer.{element}
-use Rattle.spec_walk.specs.Walk.{Walk, Done, ◌>>>◌, gives}
+use Rattle.spec_walk.specs.Walk.{Done, ◌>>>◌, gives}
 use Rattle.spec_walk.specs.Spot.{Spot, spot, member_at, elements, each}
 use Rattle.spec_walk.specs.Descend.{at_spot, elements_at}
 use Rattle.spec_walk.specs.Limits.{Counts}

@@ -263,7 +263,7 @@ low_fails f here v old one two j k is place at_it p q h =
 
 -- ---- the loop over a list
 
-maps-more : (xs more : List Expr) (ks : List ℕ) → All (λ k. k < length xs) ks → map (expr_at (xs ++ more)) ks ≡ map (expr_at xs) ks
+pub maps-more : (xs more : List Expr) (ks : List ℕ) → All (λ k. k < length xs) ks → map (expr_at (xs ++ more)) ks ≡ map (expr_at xs) ks
 maps-more xs more [] within = refl
 maps-more xs more (k ∷ ks) within =
     ap (λ x. x ∷ map (expr_at (xs ++ more)) ks) (at-more xs more k (All-head (λ k. k < length xs) k ks within))

@@ -17,3 +17,5 @@ pub mod SetLaws
 pub mod ShapedLaws
 pub mod ReleaseLaws
 pub mod ConstraintLaws
+pub mod ParamReadLaws
+pub mod FeatureLaws

@@ -1,11 +1,13 @@
 -- Parameters that are kept one after the other, each name once.
 use Rattle.std.proofs.Common.{◌≡◌, ◌≢◌, ◌∙◌, refl, sym, ap, subst, ℕ, ◌+◌, ◌<◌, ◌≤◌, ◌==◌, ◌||◌, List, [], ◌∷◌, ◌++◌, length, get_or, drop, map, true, false, append-nil, All, AllPairs, length-append, arith}
+use Rattle.std.specs.Prelude.{sum_by}
 use Rattle.std.specs.List.{list_any}
 use Rattle.std.proofs.lemmas.List.{map_push, length-map, get_or-map, at_drop_more, at_drop_all}
 use Rattle.std.proofs.lemmas.List.Quantifiers.{all_pairs_push}
 use Rattle.std.proofs.lemmas.List.Elements.{All-nil}
 use Rattle.spec_names.specs.Distinct.{distinct_by}
 use Rattle.spec_features.specs.Features.{param_limit}
+use Rattle.spec_features.specs.Theory.{parts}
 use Rattle.mrs_arena.specs.Expressions.{expr_at}
 use Rattle.mrs_names.specs.declared.name_id.NameId.{NameId}
 use Rattle.mrs_schema.specs.declared.features.Param.{Param}
@@ -89,5 +91,6 @@ features_made f {i} {list} k past none few = record {
     distinct = k.distinct;
     few_constraints = omega (arith, ap length none);
     within = subst (All (λ id. id.0 < length f.arena.exprs)) (sym none) (All-nil (λ id. id.0 < length f.arena.exprs));
+    few_parts = omega (arith, ap (λ ids. sum_by parts (map (λ id. expr_at f.arena.exprs id.0) ids)) none);
   };
 }

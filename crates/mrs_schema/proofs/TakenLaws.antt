@@ -20,7 +20,7 @@ use Rattle.spec_instructions.specs.Encodeset.{names_of}
 
 -- ---- one more name
 
-bytes_eq-turned : (xs ys : List ℕ) → bytes_eq xs ys ≡ bytes_eq ys xs
+pub bytes_eq-turned : (xs ys : List ℕ) → bytes_eq xs ys ≡ bytes_eq ys xs
 bytes_eq-turned xs ys = go (bytes_eq xs ys) (bytes_eq ys xs) refl refl
   where
     go : (a b : Bool) → bytes_eq xs ys ≡ a → bytes_eq ys xs ≡ b → bytes_eq xs ys ≡ bytes_eq ys xs
@@ -99,7 +99,7 @@ is_number None k = false
 is_number (Some id) k = k == id
 
 -- a text is that of a name where it has the name's number
-same_number : (text : List ℕ) (names : List (List ℕ)) (k : ℕ) → AreDistinct names → k < length names → bytes_eq text (text_of names k) ≡ is_number (place_of text names) k
+pub same_number : (text : List ℕ) (names : List (List ℕ)) (k : ℕ) → AreDistinct names → k < length names → bytes_eq text (text_of names k) ≡ is_number (place_of text names) k
 same_number text names k distinct within = go (bytes_eq text (text_of names k)) refl (place_of text names) refl
   where
     go : (b : Bool) → bytes_eq text (text_of names k) ≡ b → (o : Option ℕ) → place_of text names ≡ o → bytes_eq text (text_of names k) ≡ is_number o k

@@ -5,5 +5,6 @@ pub mod Drafted
 pub mod Codes
 pub mod ExprsRead
 pub mod FeatureViews
+pub mod FeaturesRead
 pub mod Nodes
 pub mod Release

@@ -34,9 +34,10 @@ impl Draft {
     ghost use Rattle.spec_instructions.specs.Encodeset.{within_limits, names_of};
     ghost use Rattle.spec_instructions.specs.Tree.{bare};
     ghost use Rattle.spec_instructions.specs.Walk.{counted};
-    ghost use Rattle.mrs_names.specs.Texts.{IsExtended};
+    ghost use Rattle.spec_walk.specs.Limits.{expression_limit};
+    ghost use Rattle.mrs_names.specs.Texts.{IsExtended, AreNames, place_of};
     ghost use Rattle.mrs_arena.specs.Paths.{IsPlace};
-    ghost use Rattle.mrs_arena.specs.Placed.{text_of, item_of, kind_of, placed_node, expr_of, AreHeld};
+    ghost use Rattle.mrs_arena.specs.Placed.{text_of, item_of, kind_of, placed_node, expr_of, AreHeld, AreHeldExprs};
     ghost use Rattle.mrs_arena.specs.Views.{flat_item};
     ghost use Rattle.mrs_arena.specs.Expressions.{expr_at, made_by, with_list, HasParts, HasName};
     ghost use Rattle.mrs_schema.specs.Drafted.{counts, nothing, parents, last_items, last_named, with_items, with_condition, with_preferred};
@@ -195,12 +196,23 @@ impl Draft {
         }
     }
 
+    /// The number of a text, if it has one. Each number is that of its text alone.
+    pub fn find(&self, text: &str) -> Option<NameId>
+        ensures place { option_map (λ id. id.0) result ≡ place_of text.now self.now.names }
+        ensures names { AreNames self.now.names }
+    {
+        let _count = self.names.len();
+        self.names.find(text)
+    }
+
     /// The names, and the nodes and expressions that were put.
     pub fn close(self) -> (Names, Arena)
         ensures names { result.0 ≡ self.names }
         ensures nodes { map (placed_node self.names) result.1.nodes ≡ self.nodes }
         ensures exprs { map (expr_of self.names) result.1.exprs ≡ self.exprs }
         ensures held { AreHeld self.names result.1.nodes }
+        ensures held_exprs { AreHeldExprs self.names result.1.exprs }
+        ensures few { length result.1.exprs ≤ expression_limit }
     {
         let Draft { names, builder } = self;
         (names, builder.close())

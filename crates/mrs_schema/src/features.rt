@@ -28,7 +28,8 @@ pub struct Param {
 
 /// Parameters, and the constraints that are to hold, which are expressions of the arena.
 ///
-/// There are at most 4,096 parameters, of distinct names, and at most 4,194,304 constraints.
+/// There are at most 4,096 parameters, of distinct names, and at most 4,194,304 constraints. Connectives and other parts
+/// under connectives, counted as nested trees, are at most 4,194,304 in all.
 #[derive(Drop)]
 pub struct Features {
     pub arena: Arena,
@@ -62,7 +63,7 @@ impl Features {
 }
 
 /// Whether a parameter has that name.
-fn is_named(params: &[Param], name: NameId) -> bool
+pub(crate) fn is_named(params: &[Param], name: NameId) -> bool
     ensures { result ≡ list_any (λ param. param.name.0 == name.0) params.now }
 {
     params.iter().any(|param| param.name == name)

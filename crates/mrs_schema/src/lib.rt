@@ -6,16 +6,19 @@ mod bits;
 mod constraints;
 mod draft;
 mod expressions;
+mod feature_reader;
 mod features;
 mod functions;
 mod items;
 mod names;
 mod nodes;
+mod params;
 mod reader;
 mod sets;
 #[cfg(test)]
 mod tests;
 
+pub use feature_reader::read_features;
 pub use features::{Features, Param, ParamKind};
 pub use mrs_walk::{NoMemory, ReadFault, SchemaFault, Text, Why};
 pub use reader::read_instructions;

@@ -1,6 +1,6 @@
 //! Documents that are read, and documents that are refused.
 
-use crate::{Features, Param, ParamKind, read_instructions};
+use crate::{Features, Param, ParamKind, read_features, read_instructions};
 use mrs_names::{NameId, Names};
 use serde_json::Value;
 use std::test::Fail;
@@ -33,6 +33,44 @@ fn documents_are_read_or_refused(rt: HostRuntime) -> Result<(), Fail> {
             Err(fault) => fault.to_string(rt.alloc())?,
         };
         assert_eq!(rt; told.as_str(), want, "{isa}");
+    }
+    Ok(())
+}
+
+/// A boolean parameter with a constraint, a parameter that is one of several words, and a constraint of the document.
+const TWO_PARAMETERS: &str =
+    r#"{"parameters":[{"_type":"Parameters.Boolean","name":"FEAT_A","constraints":[{"_type":"AST.Identifier","value":"FEAT_B"}]},
+ {"_type":"Parameters.Enum","name":"Kind"}],"constraints":[{"_type":"AST.Bool","value":true}]}"#;
+
+/// A parameter that has the name of the one before it.
+const NAMED_ALIKE: &str =
+    r#"{"parameters":[{"_type":"Parameters.Enum","name":"A"},{"_type":"Parameters.Boolean","name":"A","constraints":7}]}"#;
+
+#[test]
+fn features_are_read_or_refused(rt: HostRuntime) -> Result<(), Fail> {
+    // a document, and how many parameters, constraints and names there are then, or the fault
+    let table = [
+        (TWO_PARAMETERS, "2 parameters, 2 constraints, 3 names"),
+        (NAMED_ALIKE, "doubled /parameters/1/name"),
+        ("{}", "missing:parameters "),
+    ];
+    for (document, want) in table {
+        let value = Value::from_slice(rt.alloc(), document.as_bytes()).map_err(
+            |_| "no JSON reading",
+        )?;
+        let mut names = Names::new(rt.alloc());
+        let told = match read_features(rt.alloc(), &value, &mut names) {
+            Ok(features) => {
+                let parameters = features.params.len();
+                let constraints = features.constraints.len();
+                let held = names.len();
+                format!(in rt.alloc();
+                    "{parameters} parameters, {constraints} constraints, {held} names"
+                )?
+            }
+            Err(fault) => fault.to_string(rt.alloc())?,
+        };
+        assert_eq!(rt; told.as_str(), want, "{document}");
     }
     Ok(())
 }

@@ -8,3 +8,5 @@ pub mod Firsts
 pub mod Sizes
 pub mod FactLaws
 pub mod Renamed
+pub mod PartLaws
+pub mod ChoiceLaws

@@ -1,6 +1,6 @@
 -- What features say does not rest on what their names are, as long as different names stay different.
 use Rattle.std.proofs.Common.{◌≡◌, ℕ, ◌+◌, Bool, true, false, cond, ◌&&◌, List, [], ◌∷◌, ◌++◌, length, map, filter, Option, Some, None, option_and_then, option_map, refl, sym, ap, ◌∙◌, subst}
-use Rattle.std.specs.Prelude.{position}
+use Rattle.std.specs.Prelude.{position, is_none}
 use Rattle.std.specs.List.{AllByRecursion, position_from, list_all, filter_map, cons_option}
 use Rattle.std.proofs.lemmas.Iterator.Adapters.{position_from-zero}
 use Rattle.std.proofs.lemmas.List.{length-map, map-append}
@@ -10,7 +10,7 @@ use Rattle.spec_features.specs.Features.{ParamOf, FeaturesOf, is_boolean, boolea
 use Rattle.spec_features.specs.Fact.{same_op, same_function, same_fact, same_facts}
 use Rattle.spec_features.specs.Formula.{Connective, connective, Formula, Variable, Negation, Joined}
 use Rattle.spec_features.specs.Theory.{TheoryOf, Met, asked_name, parameter, atom, parameter_or_atom, leaf, both_sides, formula, formulas, theory, theory_with_names, states}
-use Rattle.spec_features.specs.Fits.{PinOf, has_state, agrees, Fits, IsFirstFitting}
+use Rattle.spec_features.specs.Fits.{PinOf, unknown_pin, has_state, agrees, Fits, IsFirstFitting}
 use Rattle.spec_features.specs.Clauses.{signed, last_of, constraints_from, pin_clause, variables, clauses}
 
 same_place : {X Y : Type 0} (p : X → Bool) (q : Y → Bool) (f : X → Y) (P : X → Type 0) → ((x : X) → P x → p x ≡ q (f x)) → (i : ℕ) (xs : List X) → AllByRecursion P xs → position_from p i xs ≡ position_from q i (map f xs)
@@ -173,7 +173,7 @@ module _ {M N : Type 0} (same : M → M → Bool) (again : N → N → Bool) (na
       go true h = ap (λ ns. named p.name ∷ ns) h
       go false h = h
 
-  booleans_held : (params : List (ParamOf M)) → AllByRecursion (λ (p : ParamOf M). Held p.name) params → AllByRecursion Held (booleans params)
+  pub booleans_held : (params : List (ParamOf M)) → AllByRecursion (λ (p : ParamOf M). Held p.name) params → AllByRecursion Held (booleans params)
   booleans_held [] all = tt
   booleans_held (p ∷ params) all = go (is_boolean p.kind) (booleans_held params all.1)
     where
@@ -207,6 +207,18 @@ module _ {M N : Type 0} (same : M → M → Bool) (again : N → N → Bool) (na
   agree_alike names g (pin ∷ pins) all held =
       ap (λ o. has_state pin.1 g o && list_all (agrees again (map named names) g) (pins_named pins)) (sym (name_place names pin.0 all held.0))
       ∙ ap (λ b. agrees same names g pin && b) (agree_alike names g pins all held.1)
+
+  unknown_from : (i : ℕ) (names : List M) (pins : List (PinOf M)) → AllByRecursion Held names → ArePinsHeld pins
+      → position_from (λ (pin : PinOf N). is_none (position (again pin.0) (map named names))) i (pins_named pins) ≡ position_from (λ (pin : PinOf M). is_none (position (same pin.0) names)) i pins
+  unknown_from i names [] all held = refl
+  unknown_from i names (pin ∷ pins) all held =
+      ap (λ o. cond (is_none o) (Some i) (position_from (λ (p : PinOf N). is_none (position (again p.0) (map named names))) (i + 1) (pins_named pins))) (sym (name_place names pin.0 all held.0))
+      ∙ ap (λ o. cond (is_none (position (same pin.0) names)) (Some i) o) (unknown_from (i + 1) names pins all held.1)
+
+  pub unknown_alike : (names : List M) (pins : List (PinOf M)) → AllByRecursion Held names → ArePinsHeld pins → unknown_pin again (map named names) (pins_named pins) ≡ unknown_pin same names pins
+  unknown_alike names pins all held =
+      position_from-zero (λ (pin : PinOf N). is_none (position (again pin.0) (map named names))) (pins_named pins)
+      ∙ unknown_from 0 names pins all held ∙ sym (position_from-zero (λ (pin : PinOf M). is_none (position (same pin.0) names)) pins)
 
   pub pin_clauses_alike : (names : List M) (pins : List (PinOf M)) → AllByRecursion Held names → ArePinsHeld pins
       → filter_map (pin_clause again (map named names)) (pins_named pins) ≡ filter_map (pin_clause same names) pins

@@ -1,13 +1,12 @@
 -- The definitions at worked features, by computing.
-use Rattle.std.proofs.Common.{◌≡◌, ℕ, zero, suc, pos, negsuc, Bool, true, false, List, [], ◌∷◌, ◌++◌, map, Option, Some, None, refl}
-use Rattle.std.specs.Prelude.{find, ◌&&◌, codes, bytes_eq}
-use Rattle.std.specs.List.{list_all}
-use Rattle.spec_refutation.specs.First.{assignment}
+use Rattle.std.proofs.Common.{◌≡◌, ℕ, pos, negsuc, Bool, true, false, List, [], ◌∷◌, Option, Some, None, refl}
+use Rattle.std.specs.Prelude.{codes, bytes_eq}
 use Rattle.spec_expressions.specs.Expression.{And, Or, Implies, Iff, Eq, IsFeatureImplemented, Named, Expr, Boolean, Name, Not, Binary, Call, Other, no_exprs, expr}
 use Rattle.spec_features.specs.Features.{ABoolean, AnInteger, Param, Features}
-use Rattle.spec_features.specs.Formula.{Conjunction, Variable, Negation, Joined, holds}
+use Rattle.spec_features.specs.Formula.{Conjunction, Variable, Negation, Joined}
 use Rattle.spec_features.specs.Theory.{TheoryOf, theory, states}
-use Rattle.spec_features.specs.Fits.{PinOf, agrees, unknown_pin}
+use Rattle.spec_features.specs.Fits.{PinOf, unknown_pin}
+use Rattle.spec_features.specs.Choice.{all_states, first_fitting}
 use Rattle.spec_features.specs.Clauses.{variables, clauses}
 
 abbrev boolean : List ℕ → Param
@@ -63,14 +62,13 @@ fourteen_clauses = refl
 
 -- ---- configurations, with one pin, two or none
 
--- all lists of so many states, on before off
-abbrev lists : ℕ → List (List Bool)
-lists zero = [] ∷ []
-lists (suc n) = map (λ g. true ∷ g) (lists n) ++ map (λ g. false ∷ g) (lists n)
+-- all lists of two states
+in_order : all_states 2 ≡ (true ∷ true ∷ []) ∷ (true ∷ false ∷ []) ∷ (false ∷ true ∷ []) ∷ (false ∷ false ∷ []) ∷ []
+in_order = refl
 
--- the first of them that fits
+-- the first list of states that fits
 abbrev first_of : List (PinOf (List ℕ)) → Option (List Bool)
-first_of pins = find (λ g. list_all (holds (assignment g)) small_theory.constraints && list_all (agrees bytes_eq small_theory.names g) pins) (lists 4)
+first_of pins = first_fitting bytes_eq small_theory pins
 
 -- with no pin all but FEAT_TST are on
 no_pin : first_of [] ≡ Some (true ∷ true ∷ false ∷ true ∷ [])

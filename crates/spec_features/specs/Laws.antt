@@ -1,12 +1,16 @@
 -- What clauses have to do with the configurations that fit.
-use Rattle.std.specs.Prelude.{◌≡◌, ◌↔◌, ℕ, Bool, true, List, length, ◌++◌, take, bytes_eq}
+use Rattle.std.specs.Prelude.{◌≡◌, ◌↔◌, ℕ, Some, None, ◌≤◌, Bool, true, List, length, ◌++◌, take, sum_by, Ok, bytes_eq}
+use Rattle.serde_json.specs.Data.{Data}
+use Rattle.spec_walk.specs.Limits.{Counts}
 use Rattle.spec_refutation.specs.Literals.{satisfies}
 use Rattle.spec_refutation.specs.First.{assignment, IsFirst}
 use Rattle.spec_expressions.specs.Expression.{Expr}
 use Rattle.spec_features.specs.Fact.{same_fact, no_other}
 use Rattle.spec_features.specs.Features.{FeaturesOf, Features}
-use Rattle.spec_features.specs.Theory.{theory, states}
+use Rattle.spec_features.specs.Reading.{features_read}
+use Rattle.spec_features.specs.Theory.{TheoryOf, theory, states, parts}
 use Rattle.spec_features.specs.Fits.{PinOf, Fits, IsFirstFitting}
+use Rattle.spec_features.specs.Choice.{first_fitting}
 use Rattle.spec_features.specs.Clauses.{variables, clauses, connective_clauses}
 
 -- two expressions state one fact exactly where they are equal and no Other stands in them
@@ -36,3 +40,15 @@ pub record FirstsAgree {N : Type 0} (same : N → N → Bool) (f : FeaturesOf N)
 
 abbrev pub FirstsAreFirst : Type 0
 FirstsAreFirst = (f : Features) (pins : List (PinOf (List ℕ))) → FirstsAgree bytes_eq f pins
+
+-- the connectives and parts under connectives of what a document gives are no more than the expressions that are counted while it is read
+abbrev pub PartsAreCounted : Type 0
+PartsAreCounted = (held : List (List ℕ)) (d : Data) (f : Features) (c : Counts) → features_read held d ≡ Ok (f, c) → sum_by parts f.constraints ≤ c.expressions
+
+-- going through all lists of states finds the first configuration that fits, and none exactly where none fits
+pub record FirstIsFound {N : Type 0} (same : N → N → Bool) (t : TheoryOf N) (pins : List (PinOf N)) : Type 0 where
+  pub first : (g : List Bool) → (first_fitting same t pins ≡ Some g) ↔ IsFirstFitting same t pins g
+  pub none : (first_fitting same t pins ≡ None) ↔ ((g : List Bool) → Fits same t pins g → ⊥)
+
+abbrev pub FirstsAreFound : Type 0
+FirstsAreFound = (t : TheoryOf (List ℕ)) (pins : List (PinOf (List ℕ))) → FirstIsFound bytes_eq t pins

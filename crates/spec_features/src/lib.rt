@@ -2,7 +2,7 @@
 //! `specs/`, and laws about them.
 #![tactic(auto)]
 
-ghost use Rattle.spec_features.specs.Laws.{EachExtends, FactsAreEqual, FirstsAreFirst};
+ghost use Rattle.spec_features.specs.Laws.{EachExtends, FactsAreEqual, FirstsAreFirst, FirstsAreFound, PartsAreCounted};
 
 /// A law on atoms: two expressions state one fact exactly where they are equal and no Other stands in them.
 pub fn facts_are_equal()
@@ -19,4 +19,16 @@ pub fn each_configuration_extends()
 /// fits, extended, is their first solution.
 pub fn firsts_are_first()
     ensures { FirstsAreFirst }
+{}
+
+/// A law on documents: the connectives and other parts of the constraints that are read are together no more than the
+/// expressions that are counted on the way.
+pub fn parts_are_counted()
+    ensures { PartsAreCounted }
+{}
+
+/// A law on configurations: going through all lists of states in order, on before off, finds the first that fits, and
+/// none exactly where none fits.
+pub fn firsts_are_found()
+    ensures { FirstsAreFound }
 {}
