@@ -14,7 +14,7 @@ use Rattle.asm_stream.specs.SoFar.{SoFar, Refuses}
 
 pub cut_plain : (xs : List ℕ) → HasNoEnd xs → cut xs ≡ record { whole = []; left = xs }
 cut_plain [] none = refl
-cut_plain (byte ∷ xs) none = go (byte == 10) refl (cut_plain xs (λ k low high. none (k + 1) (omega arith) (omega arith)))
+cut_plain (byte ∷ xs) none = go (byte == 10) refl (cut_plain xs (λ k low high. none (suc k) (omega arith) (omega arith)))
   where
     go : (b : Bool) → (byte == 10) ≡ b → cut xs ≡ record { whole = []; left = xs }
         → cond {A = Cut} b (record { whole = [] ∷ (cut xs).whole; left = (cut xs).left }) (before_whole byte (cut xs).whole (cut xs).left) ≡ record { whole = []; left = byte ∷ xs }

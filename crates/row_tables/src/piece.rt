@@ -89,7 +89,12 @@ fn push_list(alloc: Global, out: &mut Vec<u8>, count: u32, text: &str) -> Result
 }
 
 /// Appends the text with the number in place of each `#`.
-fn push_numbered(alloc: Global, out: &mut Vec<u8>, number: u32, text: &str) -> Result<(), Stop> {
+pub(crate) fn push_numbered(
+    alloc: Global,
+    out: &mut Vec<u8>,
+    number: u32,
+    text: &str,
+) -> Result<(), Stop> {
     for (place, part) in text.split('#').enumerate() {
         if place > 0 {
             out.extend_from_slice(number.to_string(alloc)?.as_bytes())?;

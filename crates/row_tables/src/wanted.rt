@@ -1,5 +1,6 @@
 //! How a row has to end.
 use crate::bytes::{counted, small_number};
+use crate::piece::push_numbered;
 use crate::stop::Stop;
 use std::alloc::Global;
 
@@ -34,6 +35,7 @@ impl Wanted {
             "line" => push_line(&mut self.out, text)?,
             "part" => self.out.extend_from_slice(text.as_bytes())?,
             "listed" => push_listed(alloc, &mut self.out, text)?,
+            "numbered" => push_numbered_lines(alloc, &mut self.out, text)?,
             "says" => push_line(&mut self.err, text)?,
             "says-part" => self.err.extend_from_slice(text.as_bytes())?,
             _ => return Err(Stop::Line("no line of a row begins with this word")),
@@ -66,6 +68,16 @@ fn push_listed(alloc: Global, out: &mut Vec<u8>, text: &str) -> Result<(), Stop>
         let offset = u64::from(number) * 4;
         let line = format!(in alloc; "{offset:08x} {text}")?;
         push_line(out, line.as_str())?;
+    }
+    Ok(())
+}
+
+/// Appends so many lines of the text, each with its number, from 0, in place of each `#`.
+fn push_numbered_lines(alloc: Global, out: &mut Vec<u8>, text: &str) -> Result<(), Stop> {
+    let (count, text) = counted(text)?;
+    for number in 0..count {
+        push_numbered(alloc, out, number, text)?;
+        out.push(b'\n')?;
     }
     Ok(())
 }

@@ -121,10 +121,10 @@ long_line number machine (byte ∷ line) more long =
 pub grown_long : (left more : List ℕ) → line_limit < length left → line_limit < length (left ++ more)
 grown_long left more long = omega (arith, length-append left more)
 
-judged : (left : List ℕ) → line_limit < length left → judged_open left ≡ left ∷ []
+pub judged : (left : List ℕ) → line_limit < length left → judged_open left ≡ left ∷ []
 judged left long = let e : nat_lt line_limit (length left) ≡ true = grind (arith, nat_tests) in rw e refl
 
-not_judged : (left : List ℕ) → length left ≤ line_limit → judged_open left ≡ []
+pub not_judged : (left : List ℕ) → length left ≤ line_limit → judged_open left ≡ []
 not_judged left short = let e : nat_lt line_limit (length left) ≡ false = grind (arith, nat_tests) in rw e refl
 
 -- an earlier refusal decides
@@ -135,7 +135,7 @@ stays_refused number machine lines more bad is =
     assembled-append number machine lines more ∙ rw is (ap (λ r. record { bytes = a.bytes; refused = r }) (sym is))
 
 -- and so does a line that is too long behind lines without a refusal
-long_behind : (machine : Machine) (lines more : List (List ℕ)) (line : List ℕ) → (assembled_from 1 machine lines).refused ≡ None → line_limit < length line
+pub long_behind : (machine : Machine) (lines more : List (List ℕ)) (line : List ℕ) → (assembled_from 1 machine lines).refused ≡ None → line_limit < length line
     → assembled_from 1 machine (lines ++ (line ∷ more)) ≡ record { bytes = (assembled_from 1 machine lines).bytes; refused = Some (record { number = 1 + length lines; fault = record { at = line_limit; why = Long } }) }
 long_behind machine lines more line none long =
     assembled-append 1 machine lines (line ∷ more) ∙ rw (none, long_line (1 + length lines) machine line more long)
