@@ -7,6 +7,17 @@ pub(crate) fn split_key(line: &str) -> (&str, &str) {
     line.split_once(' ').unwrap_or((line, ""))
 }
 
+/// The text between quotes, or the text where it has none: quotes show the spaces at its ends.
+pub(crate) fn unquoted(text: &str) -> &str {
+    let Some(rest) = text.strip_prefix('"') else {
+        return text;
+    };
+    match rest.strip_suffix('"') {
+        Some(inner) => inner,
+        None => text,
+    }
+}
+
 /// A decimal number.
 pub(crate) fn number(text: &str) -> Result<u64, Stop> {
     match text.parse::<u64>() {

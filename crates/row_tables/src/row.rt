@@ -1,6 +1,6 @@
 //! A row: the words of a command line, its stream, how the outside behaves, and how the run has to end.
 use crate::book::Book;
-use crate::bytes::{counted, hex_bytes, push_times, split_key, word_bytes};
+use crate::bytes::{counted, hex_bytes, push_times, split_key, unquoted, word_bytes};
 use crate::object::Object;
 use crate::stop::Stop;
 use crate::target::Target;
@@ -49,6 +49,12 @@ impl Row {
             "code-times" => {
                 let (count, words) = counted(rest)?;
                 push_times(&mut self.stream, count, &word_bytes(alloc, words)?)
+            }
+            "typed" => push_typed(&mut self.stream, rest),
+            "typed-part" => push_stream(&mut self.stream, unquoted(rest).as_bytes()),
+            "typed-times" => {
+                let (count, text) = counted(rest)?;
+                push_times(&mut self.stream, count, unquoted(text).as_bytes())
             }
             "shelf" | "input" | "out" | "err" => {
                 let (detail, value) = split_key(rest);
@@ -112,6 +118,12 @@ fn push_words(alloc: Global, words: &mut Vec<String>, text: &str) -> Result<(), 
 
 fn push_stream(stream: &mut Vec<u8>, bytes: &[u8]) -> Result<(), Stop> {
     Ok(stream.extend_from_slice(bytes)?)
+}
+
+/// Appends a line of text.
+fn push_typed(stream: &mut Vec<u8>, text: &str) -> Result<(), Stop> {
+    push_stream(stream, unquoted(text).as_bytes())?;
+    push_stream(stream, b"\n")
 }
 
 fn push_targets(targets: &mut Vec<Target>, text: &str) -> Result<(), Stop> {

@@ -1,5 +1,5 @@
 //! How a row has to end.
-use crate::bytes::{counted, small_number};
+use crate::bytes::{counted, hex_bytes, small_number, unquoted, word_bytes};
 use crate::piece::push_numbered;
 use crate::stop::Stop;
 use std::alloc::Global;
@@ -34,6 +34,8 @@ impl Wanted {
             "answer" => self.answer = String::from_str(alloc, text)?,
             "line" => push_line(&mut self.out, text)?,
             "part" => self.out.extend_from_slice(text.as_bytes())?,
+            "gives" => self.out.extend_from_slice(&hex_bytes(alloc, text)?)?,
+            "gives-code" => self.out.extend_from_slice(&word_bytes(alloc, text)?)?,
             "listed" => push_listed(alloc, &mut self.out, text)?,
             "numbered" => push_numbered_lines(alloc, &mut self.out, text)?,
             "says" => push_line(&mut self.err, text)?,
@@ -41,17 +43,6 @@ impl Wanted {
             _ => return Err(Stop::Line("no line of a row begins with this word")),
         }
         Ok(())
-    }
-}
-
-/// The text between quotes, or the text where it has none: quotes show the spaces at its ends.
-fn unquoted(text: &str) -> &str {
-    let Some(rest) = text.strip_prefix('"') else {
-        return text;
-    };
-    match rest.strip_suffix('"') {
-        Some(inner) => inner,
-        None => text,
     }
 }
 
