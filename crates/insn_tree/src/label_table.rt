@@ -46,9 +46,9 @@ impl LabelTable {
     }
 
     /// The number of the leaf that has the label.
-    pub(crate) fn find(&self, text: &str) -> Option<u32>
+    pub(crate) fn find(&self, text: &[u8]) -> Option<u32>
         ensures { result ≡ number_of text.now self.now }
     {
-        self.leaves.get(text.as_bytes()).copied()
+        self.leaves.get(text).copied()
     }
 }

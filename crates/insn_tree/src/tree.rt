@@ -154,6 +154,15 @@ impl Tree {
         ensures leaf { option_map (λ l. l.0) result ≡ labelled_leaf (tree_paths names.now self.now) text.now }
         ensures within { IfSome result (λ l. l.0 < length (leaves_of self.now.nodes)) }
     {
+        self.find_label_bytes(names, text.as_bytes())
+    }
+
+    /// The same by the bytes of the text, which may be any.
+    pub fn find_label_bytes(&self, names: &Names, text: &[u8]) -> Option<LeafId>
+        requires { IsOf names.now self.now }
+        ensures leaf { option_map (λ l. l.0) result ≡ labelled_leaf (tree_paths names.now self.now) text.now }
+        ensures within { IfSome result (λ l. l.0 < length (leaves_of self.now.nodes)) }
+    {
         match self.labels.find(text) {
             Some(leaf) => Some(LeafId(leaf)),
             None => None,

@@ -5,3 +5,8 @@ pub mod FoundLaws
 pub mod DigitLaws
 pub mod DownLaws
 pub mod FieldLaws
+pub mod TokenLaws
+pub mod NameLaws
+pub mod GivenLaws
+pub mod EncodeLaws
+pub mod ReadLaws

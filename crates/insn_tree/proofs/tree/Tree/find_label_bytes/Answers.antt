@@ -1,7 +1,7 @@
 use Rattle.std.proofs.Common.{◌∙◌, sym, ap}
 use Rattle.insn_tree.specs.Trees.{TreeParts, number_of}
 use Rattle.insn_tree.proofs.KeptLaws.{labelled_within}
-use Rattle.insn_tree.proofs.tree.Tree.find_label.Goals as goal
+use Rattle.insn_tree.proofs.tree.Tree.find_label_bytes.Goals as goal
 
 pub returns-in-Some-clause-within : goal.returns-in-Some-clause-within
 returns-in-Some-clause-within c =

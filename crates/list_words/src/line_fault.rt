@@ -1,0 +1,27 @@
+//! Why lines say no words.
+
+use insn_encode::EncodeFault;
+
+/// The first reason why a line says no word, and the place of the byte at which it is refused, from 0.
+#[derive(Clone, Copy, PartialEq, Eq, Debug)]
+pub struct LineFault {
+    pub at: u32,
+    pub why: LineWhy,
+}
+
+/// Why a line says no word.
+#[derive(Clone, Copy, PartialEq, Eq, Debug)]
+pub enum LineWhy {
+    /// The line has more than 65,536 bytes.
+    Long,
+    /// The first token is neither `leaf` nor `word`.
+    Head,
+    /// The second token is no label of a leaf.
+    Label,
+    /// A token is not the one number of a word, is no `NAME=NUMBER`, or is a second `rest=`.
+    Pair,
+    /// There are more than 256 fields, the rest not counted.
+    Many,
+    /// The fields and the rest are encoded to no word.
+    Encode(EncodeFault),
+}
