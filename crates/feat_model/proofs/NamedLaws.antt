@@ -13,20 +13,14 @@ use Rattle.spec_features.specs.Fits.{PinOf, unknown_pin, Fits}
 use Rattle.spec_features.specs.Clauses.{variables, clauses}
 use Rattle.spec_features.proofs.Renamed as renamed
 use Rattle.spec_features.proofs.ChoiceLaws.{first_is_found}
-use Rattle.mrs_names.specs.Texts.{AreNames, place_of}
 use Rattle.mrs_arena.specs.Placed.{text_of}
-use Rattle.mrs_schema.proofs.TakenLaws.{bytes_eq-turned, place_of-held, is_number, same_number}
+use Rattle.mrs_schema.proofs.TakenLaws.{same_texts}
 use Rattle.feat_model.specs.declared.faults.ModelFault.{ModelFault}
 use Rattle.feat_model.specs.declared.faults.ModelFault.TheVariants.{UnknownFeature, NoMemory}
 use Rattle.feat_model.specs.declared.outcome.Outcome.{Outcome}
 use Rattle.feat_model.specs.declared.outcome.Outcome.TheVariants.{Chosen, Refuted}
 use Rattle.feat_model.specs.Configures.{Configures, IsRefused}
 use Rattle.feat_model.specs.Named.{pins_in, AreHeld, ComesTo, Answers, IsNamed}
-
--- numbers are the same where their texts are
-alike : (names : List (List ℕ)) → AreNames names → (m n : ℕ) → m < length names → n < length names → nat_eq m n ≡ bytes_eq (text_of names m) (text_of names n)
-alike names are m n low high = sym (
-    bytes_eq-turned (text_of names m) (text_of names n) ∙ same_number (text_of names n) names m are.distinct low ∙ ap (λ o. is_number o m) (place_of-held names n are.distinct high))
 
 -- states of as many names, and of atoms behind them, are those of the configuration
 flags : (text : ℕ → List ℕ) (ns : List ℕ) (states : List Bool) → map (λ (p : List ℕ × Bool). let q : Parameter = record { name = p.0; state = Flag p.1 } in q) (zip (map text ns) states) ≡ map (flag_of text) (zip ns states)
@@ -53,7 +47,7 @@ module _ (names : List (List ℕ)) (f : FeaturesOf ℕ) (pins : List (PinOf ℕ)
   text n = text_of names n
 
   alike_held : (m n : ℕ) → Held m → Held n → nat_eq m n ≡ bytes_eq (text m) (text n)
-  alike_held m n low high = alike names held.names_are m n low high
+  alike_held m n low high = same_texts names held.names_are m n low high
 
   all_held : AllByRecursion Held (theory nat_eq f).names
   all_held = renamed.booleans_held nat_eq bytes_eq text Held alike_held f.params held.features_are.params

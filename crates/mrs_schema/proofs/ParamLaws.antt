@@ -10,7 +10,7 @@ use Rattle.spec_features.specs.Features as spec
 use Rattle.spec_features.proofs.Distinct.{distinct_alike, distinct_held}
 use Rattle.mrs_names.specs.Texts.{AreNames}
 use Rattle.mrs_arena.specs.Placed.{text_of}
-use Rattle.mrs_schema.proofs.TakenLaws.{bytes_eq-turned, is_number, place_of-held, same_number}
+use Rattle.mrs_schema.proofs.TakenLaws.{same_texts}
 use Rattle.spec_features.specs.Features.{EachName, booleans_alone, with_names, param_limit}
 use Rattle.spec_features.specs.Theory.{parts}
 use Rattle.mrs_arena.specs.Expressions.{expr_at}
@@ -99,11 +99,6 @@ texts_of_numbers : (texts : List (List ℕ)) (list : List NameId) → map (text_
 texts_of_numbers texts [] = refl
 texts_of_numbers texts (name ∷ list) = ap (λ ts. text_of texts name.0 ∷ ts) (texts_of_numbers texts list)
 
--- numbers are the same where their texts are
-pub alike : (texts : List (List ℕ)) → AreNames texts → (m n : ℕ) → m < length texts → n < length texts → (m == n) ≡ bytes_eq (text_of texts m) (text_of texts n)
-alike texts are m n low high = sym (
-    bytes_eq-turned (text_of texts m) (text_of texts n) ∙ same_number (text_of texts n) texts m are.distinct low ∙ ap (λ o. is_number o m) (place_of-held texts n are.distinct high))
-
 alone_named : (text : ℕ → List ℕ) (ns : List ℕ) → with_names text (booleans_alone ns) ≡ booleans_alone (map text ns)
 alone_named text ns = ap (λ (ps : List spec.Param). let f : spec.Features = record { params = ps; constraints = [] } in f) (each_named ns)
   where
@@ -121,23 +116,22 @@ alone_held P f ns is held = subst (EachName P) (sym is) (record { params = each_
 features_named : (f : Features) (list : List NameId) → features_of f ≡ booleans_alone (distinct_by ◌==◌ (numbers_of list)) → AreNamed list f
 features_named f list is texts are held =
     let ns = distinct_by ◌==◌ (numbers_of list) in
-    let all = held_numbers texts list held in
-    (
+    let all = held_numbers texts list held in (
       ap (with_names (text_of texts)) is ∙ alone_named (text_of texts) ns
-      ∙ ap booleans_alone (distinct_alike ◌==◌ bytes_eq (text_of texts) (λ n. n < length texts) (alike texts are) (numbers_of list) all ∙ ap distinct (texts_of_numbers texts list)),
+          ∙ ap booleans_alone (distinct_alike ◌==◌ bytes_eq (text_of texts) (λ n. n < length texts) (same_texts texts are) (numbers_of list) all ∙ ap distinct (texts_of_numbers texts list)),
       alone_held (λ n. n < length texts) f ns is (distinct_held ◌==◌ (λ n. n < length texts) (numbers_of list) all),
     )
 
 pub features_made : (f : Features) {i : ℕ} {list : List NameId} → AreKept f.params.items i list → length list ≤ i → f.constraints.items ≡ [] → i ≤ param_limit → AreMade f list
 features_made f {i} {list} k past none few =
     let made : features_of f ≡ booleans_alone (distinct_by ◌==◌ (numbers_of list)) = ap (λ ps. record { params = ps; constraints = map (λ id. expr_at f.arena.exprs id.0) f.constraints.items }) (kept_all k past) ∙ ap (λ cs. record { params = (booleans_alone (distinct_by ◌==◌ (numbers_of list))).params; constraints = map (λ id. expr_at f.arena.exprs id.0) cs }) none in record {
-  names = made;
-  named = features_named f list made;
-  sound = record {
-    few = omega (arith, k.few);
-    distinct = k.distinct;
-    few_constraints = omega (arith, ap length none);
-    within = subst (All (λ id. id.0 < length f.arena.exprs)) (sym none) (All-nil (λ id. id.0 < length f.arena.exprs));
-    few_parts = omega (arith, ap (λ ids. sum_by parts (map (λ id. expr_at f.arena.exprs id.0) ids)) none);
-  };
-}
+      names = made;
+      named = features_named f list made;
+      sound = record {
+        few = omega (arith, k.few);
+        distinct = k.distinct;
+        few_constraints = omega (arith, ap length none);
+        within = subst (All (λ id. id.0 < length f.arena.exprs)) (sym none) (All-nil (λ id. id.0 < length f.arena.exprs));
+        few_parts = omega (arith, ap (λ ids. sum_by parts (map (λ id. expr_at f.arena.exprs id.0) ids)) none);
+      };
+    }
