@@ -7,7 +7,7 @@ use Rattle.std.proofs.lemmas.List.{length-map}
 use Rattle.spec_expressions.specs.Scope.{Flag, Parameter, Configuration}
 use Rattle.spec_features.specs.Choice.{configuration_by}
 use Rattle.ast_eval.specs.Choices.{Choices, flag_of, configuration_of}
-use Rattle.spec_features.specs.Features.{FeaturesOf, EachName, with_names, booleans}
+use Rattle.spec_features.specs.Features.{FeaturesOf, with_names}
 use Rattle.spec_features.specs.Theory.{TheoryOf, theory, theory_with_names}
 use Rattle.spec_features.specs.Fits.{PinOf, unknown_pin, Fits}
 use Rattle.spec_features.specs.Clauses.{variables, clauses}

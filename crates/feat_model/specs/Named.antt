@@ -1,5 +1,5 @@
 -- What features and pins come to, by the texts of names.
-use Rattle.std.specs.Prelude.{◌≡◌, ◌<◌, ℕ, ℤ, List, length, map, ◌++◌, bytes_eq, nat_eq, Some, None, Result, Ok, Err, ⊤}
+use Rattle.std.specs.Prelude.{◌≡◌, ◌<◌, ℕ, ℤ, List, length, map, bytes_eq, nat_eq, Some, None, Result, Ok, Err, ⊤}
 use Rattle.std.specs.List.{AllByRecursion}
 use Rattle.spec_refutation.specs.Derivation.{Step}
 use Rattle.spec_refutation.specs.Reading.{IsLog}
