@@ -1,12 +1,9 @@
 use Rattle.std.proofs.Common.{◌∙◌, ap}
 use Rattle.insn_tree.specs.Trees.{number_of}
-use Rattle.insn_tree.specs.Labels.{labels_of}
 use Rattle.insn_tree.proofs.LabelLaws.{lookup-labels}
 use Rattle.insn_tree.proofs.label_table.LabelTable.find.Goals as goal
 
 pub returns : goal.returns
 returns c =
-    let entries = c.self.inside.leaves.entries in
-    c.copied.ensures ∙ c.get.ensures.value ∙ lookup-labels c.as_bytes.result.now entries
-    ∙ ap (λ text. number_of text (labels_of entries)) c.as_bytes.ensures.value
-    ∙ ap (number_of c.args.text.now) c.self.view_is
+    let entries = c.self.inside.numbers.entries in
+    c.copied.ensures ∙ c.get.ensures.value ∙ lookup-labels c.args.text.now entries ∙ ap (number_of c.args.text.now) c.self.view_is
