@@ -1,6 +1,6 @@
 //! Fields, rests and words, by the leaves of a tree.
 
-ghost use Rattle.std.specs.Prelude.{◌≡◌, ◌<◌, ◌≤◌, ◌↔◌, ℕ, List, All, length, map};
+ghost use Rattle.std.specs.Prelude.{◌≡◌, ◌<◌, ◌≤◌, ◌+◌, ◌↔◌, ℕ, List, All, length, map};
 ghost use Rattle.spec_encoding.specs.Refusal.{with_node};
 ghost use Rattle.spec_encoding.specs.PathLayout as path;
 ghost use Rattle.spec_encoding.specs.Encoding.{encoding, Encodes};
@@ -23,8 +23,10 @@ use mrs_names::NameId;
 /// The shown fields of a leaf: the visible ones with a bit that no item on the path fixes, in their order.
 pub fn shown(tree: &Tree, l: LeafId) -> Shown<'_>
     requires { l.0 < length (leaves_of tree.now.nodes) }
-    ensures { (names : List (List ℕ)) → AreNames names → AreHeld names tree.now.nodes
+    ensures fields { (names : List (List ℕ)) → AreNames names → AreHeld names tree.now.nodes
         → map (field_by names) result ≡ path.shown (path_at names tree.now l.0) }
+    ensures within { All (λ f. f.start + f.width ≤ 32) result }
+    ensures held { (names : List (List ℕ)) → AreHeld names tree.now.nodes → All (λ f. f.name < length names) result }
 {
     Shown::new(tree.fields(l), tree.layout(l))
 }

@@ -8,6 +8,7 @@ use Rattle.mrs_command.specs.declared.commands.Request.TheVariants as code
 
 abbrev pub command_of : Verb → spec.Command
 command_of verb.List = spec.list_command
+command_of verb.Asm = spec.asm_command
 command_of verb.Leaf = spec.leaf_command
 command_of verb.Proof = spec.proof_command
 
@@ -15,6 +16,7 @@ abbrev pub release_of : Release → spec.Release
 release_of release = record { insns = release.insns.now; isa = release.isa.now }
 
 abbrev pub asked_of : Request → spec.Request
-asked_of (code.List release on) = spec.AskList (release_of release) on
+asked_of (code.List release bare max on) = spec.AskList (release_of release) bare max on
+asked_of (code.Asm release max on) = spec.AskAsm (release_of release) max on
 asked_of (code.Leaf release label) = spec.AskLeaf (release_of release) label.now
 asked_of (code.Proof log) = spec.AskProof log.now

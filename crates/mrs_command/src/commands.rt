@@ -1,11 +1,12 @@
 //! The commands: the word that says each, its keys, and what it asks for.
-ghost use Rattle.std.specs.Prelude.{◌≡◌, map, option_map};
-ghost use Rattle.spec_command.specs.Commands.{release, is_one_of};
+ghost use Rattle.std.specs.Prelude.{◌≡◌, map, option_map, Some};
+ghost use Rattle.spec_command.specs.Commands.{release, form, limit, is_one_of};
 ghost use Rattle.spec_command.specs.Request.{command_named};
 ghost use Rattle.mrs_command.specs.Commands.{command_of, release_of, asked_of};
 
 use crate::names::Names;
 use crate::settings::Settings;
+use crate::values::{USUAL_LIMIT, bare_by, limit_by};
 
 /// A set of instructions: the name of its document, and its own.
 #[derive(Clone, Copy, PartialEq, Eq, Debug)]
@@ -17,9 +18,18 @@ pub struct Release<'a> {
 /// What the words of a command line ask for: a command, and what its keys say.
 #[derive(Debug, Drop)]
 pub enum Request<'a> {
-    /// `list` lists the words of a stream, under the features that are on, of which there are at most 4,096.
+    /// `list` lists the words of a stream, of which it takes at most `max` bytes, in full lines or bare ones, under the
+    /// features that are on, of which there are at most 4,096.
     List {
         release: Release<'a>,
+        bare: bool,
+        max: u64,
+        on: Names<'a>,
+    },
+    /// `asm` assembles the lines of a stream, of which it takes at most `max` bytes, under the features that are on.
+    Asm {
+        release: Release<'a>,
+        max: u64,
         on: Names<'a>,
     },
     /// `leaf` shows the leaf of that label.
@@ -37,6 +47,7 @@ pub enum Request<'a> {
 #[derive(Clone, Copy, PartialEq, Eq, Debug)]
 pub(crate) enum Verb {
     List,
+    Asm,
     Leaf,
     Proof,
 }
@@ -48,6 +59,7 @@ impl Verb {
     {
         match word {
             "list" => Some(Verb::List),
+            "asm" => Some(Verb::Asm),
             "leaf" => Some(Verb::Leaf),
             "proof" => Some(Verb::Proof),
             _ => None,
@@ -59,7 +71,8 @@ impl Verb {
         ensures { map (λ key. key.now) result.now ≡ (command_of self).asks.keys }
     {
         match self {
-            Verb::List => &["insns", "isa", "on"],
+            Verb::List => &["insns", "isa", "form", "max", "on"],
+            Verb::Asm => &["insns", "isa", "max", "on"],
             Verb::Leaf => &["insns", "isa", "label"],
             Verb::Proof => &["log"],
         }
@@ -79,8 +92,21 @@ impl Verb {
         match self {
             Verb::List => {
                 let release = release_in(settings)?;
+                let bare = is_bare(settings);
+                let max = limit_in(settings);
                 let on = settings.names_on();
-                Some(Request::List { release, on })
+                Some(Request::List {
+                    release,
+                    bare,
+                    max,
+                    on,
+                })
+            }
+            Verb::Asm => {
+                let release = release_in(settings)?;
+                let max = limit_in(settings);
+                let on = settings.names_on();
+                Some(Request::Asm { release, max, on })
             }
             Verb::Leaf => {
                 let release = release_in(settings)?;
@@ -105,6 +131,26 @@ fn release_in<'a>(settings: &Settings<'a>) -> Option<Release<'a>>
         None => "A64",
     };
     Some(Release { insns, isa })
+}
+
+/// Whether settings ask for bare lines.
+fn is_bare(settings: &Settings<'_>) -> bool
+    ensures { Some result ≡ form.value settings.now }
+{
+    match settings.value("form") {
+        Some(text) => bare_by(text).unwrap_or(false),
+        None => false,
+    }
+}
+
+/// How many bytes of the stream settings allow.
+fn limit_in(settings: &Settings<'_>) -> u64
+    ensures { Some result ≡ limit.value settings.now }
+{
+    match settings.value("max") {
+        Some(text) => limit_by(text).unwrap_or(USUAL_LIMIT),
+        None => USUAL_LIMIT,
+    }
 }
 
 #[tactic(auto, using(crate::proofs::Keys::among_keys))]

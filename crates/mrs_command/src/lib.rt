@@ -10,6 +10,7 @@ mod reading;
 mod settings;
 #[cfg(test)]
 mod tests;
+mod values;
 
 pub use bad_word::BadWord;
 pub use commands::{Release, Request};

@@ -4,7 +4,6 @@ ghost use Rattle.spec_command.specs.Commands as spec;
 ghost use Rattle.spec_command.specs.Request.{is_pin};
 
 use crate::commands::is_among;
-use mrs_names::is_name;
 
 /// How many words are pins at most.
 pub(crate) const MOST_PINS: usize = 4_096;
@@ -24,11 +23,4 @@ pub(crate) fn is_pin(word: &str) -> bool
         Some((key, _)) => is_pin_key(key),
         None => false,
     }
-}
-
-/// Whether a key takes a value that is not empty: that of a pin takes a name, and any other key any text.
-pub(crate) fn takes(key: &str, value: &str) -> bool
-    ensures { result ≡ spec.takes key.now value.now }
-{
-    !is_pin_key(key) || is_name(value)
 }

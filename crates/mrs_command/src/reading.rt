@@ -8,15 +8,16 @@ ghost use Rattle.mrs_command.specs.Commands.{command_of, asked_of};
 
 use crate::bad_word::BadWord;
 use crate::commands::{Request, Verb};
-use crate::pins::{MOST_PINS, is_pin, is_pin_key, takes};
+use crate::pins::{MOST_PINS, is_pin, is_pin_key};
 use crate::settings::Settings;
+use crate::values::takes;
 
 /// What the words of a command line ask for, or the place of the first bad word.
 ///
 /// The first word is the command, and each other word is `key=value`, split at its first `=`. Bad words are an unknown
 /// command, a word without a `=`, a key that the command does not have, a key that an earlier word has, an empty
-/// value, and of `on`, which several words may have, a value that is no name, and all behind 4,096 of them. A missing
-/// command is place 0. Where no word is bad, a missing key is refused at the number of words.
+/// value, a `form` that is neither `full` nor `bare`, a `max` that is no number up to 2^40, and of `on`, which several
+/// words may have, a value that is no name, and all behind 4,096 of them. A missing command is place 0. Where no word is bad, a missing key is refused at the number of words.
 pub fn read_request(words: &[String]) -> Result<Request<'_>, BadWord>
     ensures { MatchResult result
         (λ asked. spec.request (map string_bytes words.now) ≡ Ok (asked_of asked))

@@ -1,3 +1,4 @@
 pub mod Laws
 pub mod PinLaws
 mod Worked
+mod WorkedNumbers

@@ -6,8 +6,9 @@ use Rattle.std.specs.List.{find, range_with_len, count_by, cons_option}
 use Rattle.std.proofs.lemmas.Bool.{cases_lt, ltb-true, and_parts}
 use Rattle.std.proofs.lemmas.List.Sums.{count_by_more_yes, count_by_more_no, sum_by-cons}
 use Rattle.std.proofs.lemmas.Slice.Eq.{bytes_eq-Decides}
+use Rattle.spec_command.specs.Ask.{every, handed}
 use Rattle.spec_command.specs.Setting.{setting_in, settings_in, values_in, value_in}
-use Rattle.spec_command.specs.Commands.{Release, Request, AskList, AskLeaf, AskProof, list_command, leaf_command, proof_command, release, pin_keys, pin_limit, is_one_of, takes}
+use Rattle.spec_command.specs.Commands.{Release, Request, AskList, AskAsm, AskLeaf, AskProof, list_command, asm_command, leaf_command, proof_command, release, bare_by, form, limit_by, limit, pin_keys, pin_limit, is_one_of, takes}
 use Rattle.spec_command.specs.Request.{is_pin, is_good, is_bad_at, first_bad, complete, settled, said, request}
 
 -- a place that a search has passed fails its test
@@ -65,24 +66,56 @@ values_few key pins (word ∷ words) = subst (λ n. length (values_in key (setti
 -- ---- what a request pins
 
 abbrev pub pinned_in : Request → List (List ℕ)
-pinned_in (AskList from on) = on
+pinned_in (AskList from bare limit on) = on
+pinned_in (AskAsm from limit on) = on
 pinned_in (AskLeaf from label) = []
 pinned_in (AskProof log) = []
 
--- behind words that are all good, a list names no more features than may be
+-- behind words that are all good, no more features are named than may be
+few_named : (keys words : List (List ℕ)) → first_bad keys words ≡ None → length (values_in (codes "on") (settings_in words)) ≤ pin_limit
+few_named keys words first =
+    let all = few_of_first keys words (passed (is_bad_at keys words) 0 (length words) first) (length words) (omega arith) in
+    let some = values_few (codes "on") refl words in
+    omega (arith, ap (count_by is_pin) (take-length words))
+
 list_few : (words : List (List ℕ)) (place : Option ℕ) (asked : Request) → first_bad list_command.asks.keys words ≡ place → settled list_command words place ≡ Ok asked → length (pinned_in asked) ≤ pin_limit
 list_few words (Some place) asked first h = absurd cc
 list_few words None asked first h = go (release.value (settings_in words)) h
   where
-    few : length (values_in (codes "on") (settings_in words)) ≤ pin_limit
-    few =
-        let all = few_of_first list_command.asks.keys words (passed (is_bad_at list_command.asks.keys words) 0 (length words) first) (length words) (omega arith) in
-        let some = values_few (codes "on") refl words in
-        omega (arith, ap (count_by is_pin) (take-length words))
+    on : List (List ℕ)
+    on = values_in (codes "on") (settings_in words)
 
-    go : (found : Option Release) → complete (length words + 1) (option_and_then (λ r. option_map (AskList r) (Some (values_in (codes "on") (settings_in words)))) found) ≡ Ok asked → length (pinned_in asked) ≤ pin_limit
+    bare : Bool
+    bare = unwrap_or (option_and_then bare_by (value_in (codes "form") (settings_in words))) false
+
+    most : ℕ
+    most = unwrap_or (option_and_then limit_by (value_in (codes "max") (settings_in words))) 4294967296
+
+    -- what is asked for, by a release
+    by_release : Option Release → Option Request
+    by_release found = (handed (handed (handed (record { keys = []; value = λ _. option_map (λ from bare most on. AskList from bare most on) found }) form) limit) (every (codes "on"))).value (settings_in words)
+
+    go : (found : Option Release) → complete (length words + 1) (by_release found) ≡ Ok asked → length (pinned_in asked) ≤ pin_limit
     go None h = absurd cc
-    go (Some r) h = let same : AskList r (values_in (codes "on") (settings_in words)) ≡ asked = cc in rw (← same) few
+    go (Some r) h = let same : AskList r bare most on ≡ asked = cc in rw (← same) (few_named list_command.asks.keys words first)
+
+asm_few : (words : List (List ℕ)) (place : Option ℕ) (asked : Request) → first_bad asm_command.asks.keys words ≡ place → settled asm_command words place ≡ Ok asked → length (pinned_in asked) ≤ pin_limit
+asm_few words (Some place) asked first h = absurd cc
+asm_few words None asked first h = go (release.value (settings_in words)) h
+  where
+    on : List (List ℕ)
+    on = values_in (codes "on") (settings_in words)
+
+    most : ℕ
+    most = unwrap_or (option_and_then limit_by (value_in (codes "max") (settings_in words))) 4294967296
+
+    -- what is asked for, by a release
+    by_release : Option Release → Option Request
+    by_release found = (handed (handed (record { keys = []; value = λ _. option_map (λ from most on. AskAsm from most on) found }) limit) (every (codes "on"))).value (settings_in words)
+
+    go : (found : Option Release) → complete (length words + 1) (by_release found) ≡ Ok asked → length (pinned_in asked) ≤ pin_limit
+    go None h = absurd cc
+    go (Some r) h = let same : AskAsm r most on ≡ asked = cc in rw (← same) (few_named asm_command.asks.keys words first)
 
 -- the other commands name none
 none_of_leaf : (n : ℕ) (found : Option Release) (label : Option (List ℕ)) (asked : Request) → complete n (option_and_then (λ r. option_map (AskLeaf r) label) found) ≡ Ok asked → pinned_in asked ≡ []
@@ -107,10 +140,11 @@ proof_few words None asked h = few_of_none asked (none_of_proof _ (value_in (cod
 
 pub pinned_few : (words : List (List ℕ)) (asked : Request) → request words ≡ Ok asked → length (pinned_in asked) ≤ pin_limit
 pinned_few [] asked h = absurd cc
-pinned_few (word ∷ words) asked h = go (bytes_eq word list_command.word) (bytes_eq word leaf_command.word) (bytes_eq word proof_command.word) h
+pinned_few (word ∷ words) asked h = go (bytes_eq word list_command.word) (bytes_eq word asm_command.word) (bytes_eq word leaf_command.word) (bytes_eq word proof_command.word) h
   where
-    go : (list leaf proof : Bool) → said (cond list (Some list_command) (cond leaf (Some leaf_command) (cond proof (Some proof_command) None))) words ≡ Ok asked → length (pinned_in asked) ≤ pin_limit
-    go true leaf proof h = list_few words (first_bad list_command.asks.keys words) asked refl h
-    go false true proof h = leaf_few words (first_bad leaf_command.asks.keys words) asked h
-    go false false true h = proof_few words (first_bad proof_command.asks.keys words) asked h
-    go false false false h = absurd cc
+    go : (list asm leaf proof : Bool) → said (cond list (Some list_command) (cond asm (Some asm_command) (cond leaf (Some leaf_command) (cond proof (Some proof_command) None)))) words ≡ Ok asked → length (pinned_in asked) ≤ pin_limit
+    go true asm leaf proof h = list_few words (first_bad list_command.asks.keys words) asked refl h
+    go false true leaf proof h = asm_few words (first_bad asm_command.asks.keys words) asked refl h
+    go false false true proof h = leaf_few words (first_bad leaf_command.asks.keys words) asked h
+    go false false false true h = proof_few words (first_bad proof_command.asks.keys words) asked h
+    go false false false false h = absurd cc

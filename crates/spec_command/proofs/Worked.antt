@@ -1,7 +1,7 @@
 -- Worked values: command lines.
-use Rattle.std.specs.Prelude.{◌≡◌, [], ◌∷◌, Some, None, Ok, Err, codes, refl}
+use Rattle.std.specs.Prelude.{◌≡◌, [], ◌∷◌, true, false, Some, None, Ok, Err, codes, refl}
 use Rattle.spec_command.specs.Setting.{value_in}
-use Rattle.spec_command.specs.Commands.{AskList, AskLeaf, AskProof, leaf_command}
+use Rattle.spec_command.specs.Commands.{AskList, AskAsm, AskLeaf, AskProof, leaf_command}
 use Rattle.spec_command.specs.Request.{request}
 
 no_word : request [] ≡ Err 0
@@ -28,7 +28,7 @@ no_equals = refl
 empty_key : request (codes "list" ∷ codes "=x" ∷ []) ≡ Err 1
 empty_key = refl
 
-first_equals : request (codes "list" ∷ codes "insns=a=b" ∷ []) ≡ Ok (AskList (record { insns = codes "a=b"; isa = codes "A64" }) [])
+first_equals : request (codes "list" ∷ codes "insns=a=b" ∷ []) ≡ Ok (AskList (record { insns = codes "a=b"; isa = codes "A64" }) false 4294967296 [])
 first_equals = refl
 
 no_label : request (codes "leaf" ∷ codes "insns=i" ∷ []) ≡ Err 2
@@ -52,8 +52,30 @@ set_alone = refl
 
 -- several words may have the key of a pin, also with one value
 pins : request (codes "list" ∷ codes "on=B" ∷ codes "insns=i" ∷ codes "on=A" ∷ codes "on=B" ∷ [])
-    ≡ Ok (AskList (record { insns = codes "i"; isa = codes "A64" }) (codes "B" ∷ codes "A" ∷ codes "B" ∷ []))
+    ≡ Ok (AskList (record { insns = codes "i"; isa = codes "A64" }) false 4294967296 (codes "B" ∷ codes "A" ∷ codes "B" ∷ []))
 pins = refl
+
+-- lines are full or bare, and a limit is a number up to 2^40
+bare_lines : request (codes "list" ∷ codes "insns=i" ∷ codes "max=0x10" ∷ codes "form=bare" ∷ []) ≡ Ok (AskList (record { insns = codes "i"; isa = codes "A64" }) true 16 [])
+bare_lines = refl
+
+full_lines : request (codes "list" ∷ codes "form=full" ∷ codes "max=1099511627776" ∷ codes "insns=i" ∷ []) ≡ Ok (AskList (record { insns = codes "i"; isa = codes "A64" }) false 1099511627776 [])
+full_lines = refl
+
+other_form : request (codes "list" ∷ codes "form=Bare" ∷ codes "insns=i" ∷ []) ≡ Err 1
+other_form = refl
+
+past_the_limit : request (codes "list" ∷ codes "insns=i" ∷ codes "max=1099511627777" ∷ []) ≡ Err 2
+past_the_limit = refl
+
+no_number : request (codes "asm" ∷ codes "insns=i" ∷ codes "max=1k" ∷ []) ≡ Err 2
+no_number = refl
+
+lines_in : request (codes "asm" ∷ codes "on=A" ∷ codes "insns=i" ∷ codes "max=0" ∷ []) ≡ Ok (AskAsm (record { insns = codes "i"; isa = codes "A64" }) 0 (codes "A" ∷ []))
+lines_in = refl
+
+no_form_of_asm : request (codes "asm" ∷ codes "insns=i" ∷ codes "form=bare" ∷ []) ≡ Err 2
+no_form_of_asm = refl
 
 no_name : request (codes "list" ∷ codes "insns=i" ∷ codes "on=A" ∷ codes "on=a#b" ∷ []) ≡ Err 3
 no_name = refl

@@ -17,6 +17,10 @@ needed key = record { keys = key ∷ []; value = λ settings. value_in key setti
 abbrev pub may_say : List ℕ → List ℕ → Ask (List ℕ)
 may_say key text = record { keys = key ∷ []; value = λ settings. Some (unwrap_or (value_in key settings) text) }
 
+-- a key that may be missing, and then is this; else it is what its value is read as, by a reading of the values that the key takes
+abbrev pub may_be : {A : Type 0} → List ℕ → (List ℕ → Option A) → A → Ask A
+may_be key read other = record { keys = key ∷ []; value = λ settings. Some (unwrap_or (option_and_then read (value_in key settings)) other) }
+
 -- a key that any number of settings may have: their values in order
 abbrev pub every : List ℕ → Ask (List (List ℕ))
 every key = record { keys = key ∷ []; value = λ settings. Some (values_in key settings) }
@@ -28,3 +32,7 @@ made_into f a = record { keys = a.keys; value = λ settings. option_map f (a.val
 -- what is asked, and something beside it
 abbrev pub together : {A B C : Type 0} → (A → B → C) → Ask A → Ask B → Ask C
 together f a b = record { keys = a.keys ++ b.keys; value = λ settings. option_and_then (λ x. option_map (f x) (b.value settings)) (a.value settings) }
+
+-- what is asked, handed to what is asked before it
+abbrev pub handed : {A B : Type 0} → Ask (A → B) → Ask A → Ask B
+handed f a = together (λ g x. g x) f a

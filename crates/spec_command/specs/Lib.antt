@@ -1,3 +1,4 @@
+pub mod Number
 pub mod Setting
 pub mod Ask
 pub mod Commands

@@ -1,2 +1,6 @@
-//! The texts that the program prints for words. Definitions alone, in `specs/`, and laws about them, in `proofs/`.
+//! The texts that the program prints for words. Definitions, in `specs/`, and laws about them.
 #![tactic(auto)]
+
+mod laws;
+
+pub use laws::lone_fields_tell_word;

@@ -6,49 +6,55 @@ use Rattle.std.proofs.lemmas.Bool.Decides.{nat_tests}
 use Rattle.spec_instructions.specs.Tree.{Own}
 use Rattle.spec_instructions.specs.Paths.{labelled_leaf}
 use Rattle.spec_decode.specs.Machine.{Machine}
-use Rattle.spec_lines.specs.Listing.{words_in, rest_in, listing, rest_line, stream_lines}
-use Rattle.spec_lines.proofs.Streams.{words_in-front, listing-append}
-use Rattle.spec_command.specs.Commands.{AskList, AskLeaf, AskProof}
+use Rattle.spec_lines.specs.Words.{words_in, rest_in}
+use Rattle.spec_lines.specs.Streams.{Form, form_by, word_lines, bytes_line, stream_lines}
+use Rattle.spec_lines.proofs.Streams.{words_in-front}
+use Rattle.spec_lines.proofs.StreamLines.{word_lines-append}
+use Rattle.spec_command.specs.Commands.{AskList, AskAsm, AskLeaf, AskProof}
 use Rattle.spec_run.specs.End.{IsEarly, Limit, Input}
 use Rattle.spec_run.specs.Work.{Outcome}
-use Rattle.spec_run.specs.Commands.{stream_end, stream_limit, stream_outcome, list_work, leaf_outcome}
+use Rattle.spec_run.specs.Listing.{stream_end, list_outcome, list_work}
+use Rattle.spec_run.specs.Commands.{leaf_outcome}
+use Rattle.spec_run.proofs.Assembling.{asm_fits}
 use Rattle.spec_run.specs.Fits.{IsProgress, WorksFit}
 
 -- ---- the stream's outcome within the limit and past it
 
-pub outcome_whole : (machine : Machine) (all : List ℕ) → length all ≤ stream_limit → stream_outcome machine all ≡ record { end = stream_end (rest_in all); out = stream_lines machine all }
-outcome_whole machine all le = let e : nat_lt stream_limit (length all) ≡ false = grind (arith, nat_tests) in rw e
+module _ (form : Form) (machine : Machine) (limit : ℕ) where
+  pub outcome_whole : (all : List ℕ) → length all ≤ limit → list_outcome form machine limit all ≡ record { end = stream_end (rest_in all); out = stream_lines form machine all }
+  outcome_whole all le = let e : nat_lt limit (length all) ≡ false = grind (arith, nat_tests) in rw e
 
-pub outcome_long : (machine : Machine) (all : List ℕ) → stream_limit < length all → stream_outcome machine all ≡ record { end = Limit Input; out = listing machine 0 (words_in (take stream_limit all)) }
-outcome_long machine all lt = let e : nat_lt stream_limit (length all) ≡ true = grind (arith, nat_tests) in rw e
+  pub outcome_long : (all : List ℕ) → limit < length all → list_outcome form machine limit all ≡ record { end = Limit Input; out = word_lines form machine 0 (words_in (take limit all)) }
+  outcome_long all lt = let e : nat_lt limit (length all) ≡ true = grind (arith, nat_tests) in rw e
 
--- ---- `list`
+  -- ---- `list`
 
--- the lines of a first part are a first part of the lines
-lines_front : (machine : Machine) (xs ys : List ℕ) → (rest : List ℕ) × (listing machine 0 (words_in (xs ++ ys)) ≡ listing machine 0 (words_in xs) ++ rest)
-lines_front machine xs ys = let more = words_in-front xs ys in (_, ap (listing machine 0) more.1 ∙ listing-append machine 0 (words_in xs) more.0)
+  -- the lines of a first part are a first part of the lines
+  lines_front : (xs ys : List ℕ) → (rest : List ℕ) × (word_lines form machine 0 (words_in (xs ++ ys)) ≡ word_lines form machine 0 (words_in xs) ++ rest)
+  lines_front xs ys = let more = words_in-front xs ys in (_, ap (word_lines form machine 0) more.1 ∙ word_lines-append form machine 0 (words_in xs) more.0)
 
-pub list_front : (machine : Machine) (xs ys : List ℕ) → length xs ≤ stream_limit → (rest : List ℕ) × ((stream_outcome machine (xs ++ ys)).out ≡ listing machine 0 (words_in xs) ++ rest)
-list_front machine xs ys le = elim (cases_lt stream_limit (length (xs ++ ys))) [
-  | inl long ↦
-      (let n : length xs + (stream_limit - length xs) ≡ stream_limit = omega arith in
-      let cut : take stream_limit (xs ++ ys) ≡ xs ++ take (stream_limit - length xs) ys = ap (λ k. take k (xs ++ ys)) (sym n) ∙ take-append-add xs ys (stream_limit - length xs) in
-      let front = lines_front machine xs (take (stream_limit - length xs) ys) in
-      (front.0, ap (λ o. o.out) (outcome_long machine (xs ++ ys) long) ∙ ap (λ bytes. listing machine 0 (words_in bytes)) cut ∙ front.1))
-  | inr short ↦
-      (let front = lines_front machine xs ys in (
-        front.0 ++ rest_line (4 * length (words_in (xs ++ ys))) (rest_in (xs ++ ys)),
-        ap (λ o. o.out) (outcome_whole machine (xs ++ ys) short) ∙ ap (λ l. l ++ rest_line (4 * length (words_in (xs ++ ys))) (rest_in (xs ++ ys))) front.1 ∙ append_assoc (listing machine 0 (words_in xs)) _ _,
-      ))
-]
+  pub list_front : (xs ys : List ℕ) → length xs ≤ limit → (rest : List ℕ) × ((list_outcome form machine limit (xs ++ ys)).out ≡ word_lines form machine 0 (words_in xs) ++ rest)
+  list_front xs ys le = elim (cases_lt limit (length (xs ++ ys))) [
+    | inl long ↦
+        (let n : length xs + (limit - length xs) ≡ limit = omega arith in
+        let cut : take limit (xs ++ ys) ≡ xs ++ take (limit - length xs) ys = ap (λ k. take k (xs ++ ys)) (sym n) ∙ take-append-add xs ys (limit - length xs) in
+        let front = lines_front xs (take (limit - length xs) ys) in
+        (front.0, ap (λ o. o.out) (outcome_long (xs ++ ys) long) ∙ ap (λ bytes. word_lines form machine 0 (words_in bytes)) cut ∙ front.1))
+    | inr short ↦
+        (let front = lines_front xs ys in
+        let last : List ℕ = bytes_line form (4 * length (words_in (xs ++ ys))) (rest_in (xs ++ ys)) in (
+          front.0 ++ last,
+          ap (λ o. o.out) (outcome_whole (xs ++ ys) short) ∙ ap (λ l. l ++ last) front.1 ∙ append_assoc (word_lines form machine 0 (words_in xs)) _ _,
+        ))
+  ]
 
 late_stream : (b : Bool) (bytes whole part : List ℕ) → IsEarly (cond {A = Outcome} b (record { end = Limit Input; out = part }) (record { end = stream_end bytes; out = whole })).end → ⊥
 late_stream true bytes whole part h = h
 late_stream false [] whole part h = h
 late_stream false (b ∷ bytes) whole part h = h
 
-pub list_fits : (machine : Machine) → IsProgress (list_work machine)
-list_fits machine = record { front = list_front machine; late = λ bytes early. late_stream (nat_lt stream_limit (length bytes)) (rest_in bytes) _ _ early }
+pub list_fits : (form : Form) (machine : Machine) (limit : ℕ) → IsProgress (list_work form machine limit)
+list_fits form machine limit = record { front = list_front form machine limit; late = λ bytes early. late_stream (nat_lt limit (length bytes)) (rest_in bytes) _ _ early }
 
 -- ---- `leaf`
 
@@ -59,6 +65,7 @@ leaf_fits paths (Some k) early = absurd early
 -- ---- all commands
 
 pub works_fit : WorksFit
-works_fit (AskList release on) machine = list_fits machine
+works_fit (AskList release bare limit on) machine = list_fits (form_by bare) machine limit
+works_fit (AskAsm release limit on) machine = asm_fits machine limit
 works_fit (AskLeaf release label) machine = leaf_fits machine.paths (labelled_leaf machine.paths label)
 works_fit (AskProof log) checked = λ early. absurd early

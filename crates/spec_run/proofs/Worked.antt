@@ -1,13 +1,14 @@
 -- Worked values: command lines, documents that are refused, and what runs put out.
-use Rattle.std.specs.Prelude.{◌≡◌, [], ◌∷◌, Ok, Err, Result, codes, refl, ℕ, List, ◌++◌}
+use Rattle.std.specs.Prelude.{◌≡◌, [], ◌∷◌, false, Ok, Err, Result, codes, refl, ℕ, List, ◌++◌}
 use Rattle.std.specs.Fmt.{digits}
 use Rattle.serde_json.specs.Read.{read}
 use Rattle.serde_json.proofs.OnLiterals.{serde_json_on_literals}
+use Rattle.spec_encoding.specs.Parts.{number_of_bits}
 use Rattle.spec_walk.specs.Event.{Missing, UnlistedKind}
 use Rattle.spec_decode.specs.Machine.{Machine}
 use Rattle.spec_command.specs.Request.{request}
 use Rattle.spec_command.specs.Commands.{Request, AskList, AskLeaf}
-use Rattle.spec_run.specs.End.{Done, Ragged, Usage, Document, Question, NoLeaf, ReadFault, WriteFault, Limit, Insns, Log, Input, Json, Schema, Syntax, message}
+use Rattle.spec_run.specs.End.{Done, Ragged, Usage, Document, Question, NoLeaf, Line, ReadFault, WriteFault, Limit, Insns, Log, Input, Json, Schema, Syntax, message}
 use Rattle.spec_run.specs.Opening.{OpeningError, Refused, of_value}
 use Rattle.spec_run.specs.Work.{Outcome}
 use Rattle.spec_run.specs.Outcome.{outcome, after_opening}
@@ -39,13 +40,17 @@ kind_text = refl
 leaf_text : message (Question NoLeaf) ≡ codes "leaf\n"
 leaf_text = refl
 
+line_text : message (Question (Line 12 5 (codes "missing Rd"))) ≡ codes "line 12 5 missing Rd\n"
+unfolding digits
+line_text = refl
+
 -- a command, and the document that it names
 abbrev opened_by : List (List ℕ) → List ℕ → Result Machine OpeningError
 opened_by on document = of_value (codes "A64") on (read document)
 
 -- a set without leaves, and a stream of one word
 abbrev of_stream : List ℕ → Outcome
-of_stream bytes = after_opening (AskList (record { insns = []; isa = [] }) []) (opened_by [] (codes "{\"instructions\":[{\"_type\":\"Instruction.InstructionSet\",\"name\":\"A64\"}]}")) bytes
+of_stream bytes = after_opening (AskList (record { insns = []; isa = [] }) false 8 []) (opened_by [] (codes "{\"instructions\":[{\"_type\":\"Instruction.InstructionSet\",\"name\":\"A64\"}]}")) bytes
 
 one_word : of_stream (0 ∷ 0 ∷ 0 ∷ 0 ∷ []) ≡ record { end = Done; out = codes "00000000 00000000 none\n" }
 unfolding digits serde_json_on_literals
@@ -54,6 +59,11 @@ one_word = refl
 one_word_and_a_byte : of_stream (0 ∷ 0 ∷ 0 ∷ 0 ∷ 255 ∷ []) ≡ record { end = Ragged 1; out = codes "00000000 00000000 none\n" ++ codes "00000004 rest ff\n" }
 unfolding digits serde_json_on_literals
 one_word_and_a_byte = refl
+
+-- the limit of that stream is 8 bytes
+past_the_limit : of_stream (0 ∷ 0 ∷ 0 ∷ 0 ∷ 1 ∷ 0 ∷ 0 ∷ 0 ∷ 2 ∷ []) ≡ record { end = Limit Input; out = codes "00000000 00000000 none\n" ++ codes "00000004 00000001 none\n" }
+unfolding digits serde_json_on_literals
+past_the_limit = refl
 
 no_stream : of_stream [] ≡ record { end = Done; out = [] }
 unfolding digits serde_json_on_literals
@@ -65,19 +75,24 @@ conditioned = codes "{\"instructions\":[{\"_type\":\"Instruction.InstructionSet\
 
 -- what a request to list puts out over that document and one word
 abbrev listed : Result Request ℕ → Outcome
-listed (Ok (AskList release on)) = after_opening (AskList release on) (of_value release.isa on (read conditioned)) (0 ∷ 0 ∷ 0 ∷ 0 ∷ [])
+listed (Ok (AskList release bare limit on)) = after_opening (AskList release bare limit on) (of_value release.isa on (read conditioned)) (0 ∷ 0 ∷ 0 ∷ 0 ∷ [])
 listed other = record { end = Usage 0; out = [] }
 
 abbrev asked : List (List ℕ) → Outcome
 asked words = listed (request (codes "list" ∷ codes "insns=d" ∷ words))
 
 not_known : asked [] ≡ record { end = Done; out = codes "00000000 00000000 open L\n" }
-unfolding digits serde_json_on_literals
+unfolding digits serde_json_on_literals number_of_bits
 not_known = refl
+
+-- within the limit, also inside a word, and in bare lines
+bare : asked (codes "form=bare" ∷ codes "max=5" ∷ []) ≡ record { end = Done; out = codes "leaf L\n" }
+unfolding digits serde_json_on_literals number_of_bits
+bare = refl
 
 -- also where it is named twice
 known : asked (codes "on=E" ∷ codes "on=F" ∷ codes "on=F" ∷ []) ≡ record { end = Done; out = codes "00000000 00000000 one L\n" }
-unfolding digits serde_json_on_literals
+unfolding digits serde_json_on_literals number_of_bits
 known = refl
 
 texts : message (ReadFault Input) ≡ codes "read input\n"
@@ -100,8 +115,8 @@ no_such_leaf : of_label (codes "DUP") ≡ record { end = Question NoLeaf; out = 
 unfolding digits serde_json_on_literals
 no_such_leaf = refl
 
-second_leaf : of_label (codes "DUP#1") ≡ record { end = Done; out = codes "leaf DUP#1\npath A64 DUP\nbits xxxxxxxxxxxxxxxxxxxxxxxxxxxxxxxx\n" }
-unfolding digits serde_json_on_literals
+second_leaf : of_label (codes "DUP#1") ≡ record { end = Done; out = codes "leaf DUP#1\npath A64 DUP\nbits xxxxxxxxxxxxxxxxxxxxxxxxxxxxxxxx\nrest 0xffffffff 0x00000000\n" }
+unfolding digits serde_json_on_literals number_of_bits
 second_leaf = refl
 
 -- ---- `proof`

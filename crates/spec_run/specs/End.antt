@@ -14,9 +14,10 @@ pub data DocFault : Type 0 where
   Schema : Fault → DocFault
   Syntax : ℕ → DocFault
 
--- a question has no answer: no leaf has the label
+-- a question has no answer: no leaf has the label, or a line is refused: its number, counted from 1, the byte, and the reason
 pub data QuestionFault : Type 0 where
   NoLeaf : QuestionFault
+  Line : (number at : ℕ) → (reason : List ℕ) → QuestionFault
 
 -- the statuses
 pub data End : Type 0 where
@@ -35,6 +36,7 @@ pub data End : Type 0 where
 -- a question that is asked before the stream is looked at; one on what stands in the stream is none of these
 abbrev pub IsAsked : QuestionFault → Type 0
 IsAsked NoLeaf = ⊤
+IsAsked (Line number at reason) = ⊥
 
 -- the run ended before the stream was looked at, and nothing went out
 abbrev pub IsEarly : End → Type 0
@@ -90,6 +92,7 @@ fault_text (Syntax at) = codes "syntax " ++ decimal at
 
 abbrev pub question_text : QuestionFault → List ℕ
 question_text NoLeaf = codes "leaf"
+question_text (Line number at reason) = codes "line " ++ (decimal number ++ (32 ∷ (decimal at ++ 32 ∷ reason)))
 
 abbrev pub message : End → List ℕ
 message Done = []

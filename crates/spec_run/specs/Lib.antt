@@ -4,6 +4,8 @@ pub mod Opening
 pub mod Opens
 pub mod Work
 pub mod Logs
+pub mod Listing
+pub mod Assembling
 pub mod Commands
 pub mod Outcome
 pub mod Scene

@@ -1,0 +1,6 @@
+pub mod Lines
+pub mod SoFar
+pub mod Pieces
+pub mod Progress
+pub mod Endings
+pub mod Assembles

@@ -1,0 +1,128 @@
+//! One piece of a stream, and its end.
+ghost use Rattle.std.specs.Prelude.{◌≡◌, ◌+◌, ◌<◌, ◌^◌, length};
+ghost use Rattle.spec_lines.specs.Words.{rest_in};
+ghost use Rattle.spec_run.specs.Listing.{form_by};
+ghost use Rattle.list_words.specs.Listers.{IsOneRelease, machine};
+ghost use Rattle.list_stream.specs.Pieces.{PieceEnds, PieceCause, Finished, Looked, stopped_by};
+
+use crate::ended::Ended;
+use list_words::{Lister, push_bytes_line, push_lines};
+use mrs_io::{Sink, Source, fill, write_whole};
+use std::alloc::AllocError;
+
+/// What stops the listing of a stream before its end.
+#[derive(Clone, Copy, Debug, PartialEq, Eq)]
+pub(crate) enum Stop {
+    Input,
+    Output,
+    Memory,
+}
+
+impl From<AllocError> for Stop {
+    ghost use Rattle.std.specs.Prelude.{◌≡◌};
+    ghost use Rattle.list_stream.specs.declared.piece.Stop.TheVariants.{Memory};
+
+    ghost from_gives = { λ _ stop. stop ≡ Memory };
+
+    fn from(_: AllocError) -> Self {
+        Stop::Memory
+    }
+}
+
+impl Stop {
+    /// How the listing ends then.
+    pub(crate) fn ended(self) -> Ended
+        ensures { result ≡ stopped_by self }
+    {
+        match self {
+            Stop::Input => Ended::ReadFault,
+            Stop::Output => Ended::WriteFault,
+            Stop::Memory => Ended::NoMemory,
+        }
+    }
+}
+
+/// What a look for a byte past the limit found.
+#[derive(Clone, Copy, Debug, PartialEq, Eq)]
+pub(crate) enum Look {
+    End,
+    More,
+    Failed,
+}
+
+/// Reads one piece of the stream, which stands at an offset, and writes the lines of its whole words. Answers how
+/// many bytes it read: fewer than the buffer holds only at the end. `lines` is room that is used anew.
+pub(crate) fn list_piece<S: Source, K: Sink>(
+    lister: &Lister<'_>,
+    offset: u64,
+    input: &mut S,
+    out: &mut K,
+    buffer: &mut [u8],
+    lines: &mut Vec<u8>,
+) -> Result<usize, Stop>
+    requires release { IsOneRelease lister.now }
+    requires offset { offset + length buffer.old < 2 ^ 64 }
+    ensures piece { PieceEnds (form_by lister.now.bare) (machine lister.now) offset (length buffer.new)
+        (S.reading input.old) (S.reading input.new) (K.writing out.old) (K.writing out.new) buffer.new result }
+    ensures cause { PieceCause (S.reading input.old) (S.reading input.new) (K.writing out.old) (K.writing out.new) result }
+{
+    let Ok(n) = fill(input, buffer) else {
+        return Err(Stop::Input);
+    };
+    lines.clear();
+    push_lines(lines, lister, offset, &buffer[..n])?;
+    if write_whole(out, lines).is_err() {
+        return Err(Stop::Output);
+    }
+    Ok(n)
+}
+
+/// The bytes behind the last whole word of a stream that ends with this piece.
+#[tactic(auto, using(spec_lines::proofs::Streams::rest_taken))]
+fn rest_of(last: &[u8]) -> &[u8]
+    ensures { result.now ≡ rest_in last.now }
+{
+    &last[last.len() - last.len() % 4..]
+}
+
+/// Writes the line of the bytes behind the last whole word, if there are any. `last` is the last piece of the stream,
+/// which stands at an offset; the lines of its whole words went out. `lines` is room that is used anew.
+#[tactic(auto, using(spec_lines::proofs::Streams::rest_offset, spec_lines::proofs::Streams::length_rest_in_lt))]
+pub(crate) fn finish<K: Sink>(
+    bare: bool,
+    offset: u64,
+    last: &[u8],
+    out: &mut K,
+    lines: &mut Vec<u8>,
+) -> Ended
+    requires { offset + length last.now < 2 ^ 64 }
+    ensures { Finished (form_by bare) offset last.now (K.writing out.old) (K.writing out.new) result }
+{
+    let rest = rest_of(last);
+    if rest.is_empty() {
+        return Ended::Done;
+    }
+    lines.clear();
+    let at = offset + (last.len() - rest.len()) as u64;
+    if push_bytes_line(lines, bare, at, rest).is_err() {
+        return Ended::NoMemory;
+    }
+    if write_whole(out, lines).is_err() {
+        return Ended::WriteFault;
+    }
+    Ended::Ragged {
+        rest: rest.len() as u8,
+    }
+}
+
+/// Looks for a byte past the limit of the stream.
+pub(crate) fn look<S: Source>(input: &mut S) -> Look
+    ensures { Looked (S.reading input.old) (S.reading input.new) result }
+{
+    let mut next = [0u8; 1];
+    match fill(input, &mut next) {
+        Ok(0) => Look::End,
+        Ok(_) => Look::More,
+        Err(_) => Look::Failed,
+    }
+}

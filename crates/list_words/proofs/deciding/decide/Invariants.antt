@@ -1,0 +1,4 @@
+use Rattle.list_words.proofs.deciding.decide.Given as goal
+
+abbrev pub ghosts-decide_from : goal.ghosts-decide_from
+ghosts-decide_from a = record { name = a.blank.name; parts = a.blank.parts }

@@ -1,0 +1,50 @@
+//! Which values keys take, and what they say.
+ghost use Rattle.std.specs.Prelude.{◌≡◌, option_map};
+ghost use Rattle.spec_command.specs.Commands as spec;
+
+use crate::pins::is_pin_key;
+use mrs_names::is_name;
+use number_text::number_below;
+
+/// How many bytes of a stream are taken where no setting says it: 2^32.
+pub(crate) const USUAL_LIMIT: u64 = 4_294_967_296;
+
+/// How many bytes a setting may allow at most: 2^40.
+const GREATEST_LIMIT: u128 = 1_099_511_627_776;
+
+/// Whether a text asks for bare lines or for full ones; `None` exactly where it is the word for neither.
+pub(crate) fn bare_by(text: &str) -> Option<bool>
+    ensures { result ≡ spec.bare_by text.now }
+{
+    match text {
+        "full" => Some(false),
+        "bare" => Some(true),
+        _ => None,
+    }
+}
+
+/// The limit that a text says; `None` exactly where it is no number up to 2^40.
+pub(crate) fn limit_by(text: &str) -> Option<u64>
+    ensures { option_map (λ n. n) result ≡ spec.limit_by text.now }
+{
+    match number_below(text.as_bytes(), GREATEST_LIMIT + 1) {
+        Some(limit) => Some(limit as u64),
+        None => None,
+    }
+}
+
+/// Whether a key takes a value that is not empty: that of a pin takes a name, `form` and `max` what they are read from, and
+/// any other key any text.
+pub(crate) fn takes(key: &str, value: &str) -> bool
+    ensures { result ≡ spec.takes key.now value.now }
+{
+    if is_pin_key(key) {
+        is_name(value)
+    } else if key == "form" {
+        bare_by(value).is_some()
+    } else if key == "max" {
+        limit_by(value).is_some()
+    } else {
+        true
+    }
+}

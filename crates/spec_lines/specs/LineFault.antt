@@ -1,0 +1,25 @@
+-- Why a line says no word.
+use Rattle.std.specs.Prelude.{ℕ, List, Result, Err}
+use Rattle.spec_encoding.specs.Refusal.{Refusal}
+
+pub data LineWhy : Type 0 where
+  -- the line is too long
+  Long : LineWhy
+  -- it does not begin with a word that it may begin with
+  Head : LineWhy
+  -- no leaf has that label
+  Label : LineWhy
+  -- what should be a number, or a field with its number, is none
+  Pair : LineWhy
+  -- there are too many fields
+  Many : LineWhy
+  -- along the path to leaf number k, the fields and the rest are encoded to no word
+  Encode : (k : ℕ) → Refusal (List ℕ) → LineWhy
+
+-- the place of the byte at which a line is refused, from 0, and why
+pub record LineFault : Type 0 where
+  pub at : ℕ
+  pub why : LineWhy
+
+abbrev pub refused : {A : Type 0} → ℕ → LineWhy → Result A LineFault
+refused at why = Err (record { at = at; why = why })
