@@ -48,7 +48,7 @@ impl Tree {
     ghost use Rattle.std.specs.Prelude.{◌≡◌, ◌<◌, ◌≤◌, ◌+◌, ℕ, List, All, length, map, option_map, slice_get, IfOk, IfSome, Some};
     ghost use Rattle.bit_pattern.specs.Views.{digits_of};
     ghost use Rattle.mrs_names.specs.Texts.{AreNames};
-    ghost use Rattle.mrs_arena.specs.Placed.{leaves_of, aliases_of, AreHeld};
+    ghost use Rattle.mrs_arena.specs.Placed.{own_at, path_to, leaves_of, aliases_of, AreHeld};
     ghost use Rattle.std.specs.List.{list_all};
     ghost use Rattle.spec_bits.specs.Item.{item_holds};
     ghost use Rattle.spec_instructions.specs.Paths.{label, labelled_leaf, path_items};
@@ -109,20 +109,23 @@ impl Tree {
         self.aliases.paths.nodes.len() as u32
     }
 
-    /// The node of a leaf.
+    /// The node of a leaf, at which its path ends.
     pub fn leaf_node(&self, l: LeafId) -> NodeId
         requires { l.0 < length (leaves_of self.now.nodes) }
         ensures node { slice_get (leaves_of self.now.nodes) l.0 ≡ Some result.0 }
         ensures within { result.0 < length self.now.nodes }
+        ensures path { (names : List (List ℕ)) → path_at names self.now l.0 ≡ path_to names self.now.nodes result.0 }
     {
         self.leaves.paths.nodes[l.0 as usize]
     }
 
-    /// The node of an alias.
+    /// The node of an alias, at which its path ends.
     pub fn alias_node(&self, a: AliasId) -> NodeId
         requires { a.0 < length (aliases_of self.now.nodes) }
         ensures node { slice_get (aliases_of self.now.nodes) a.0 ≡ Some result.0 }
         ensures within { result.0 < length self.now.nodes }
+        ensures path { (names : List (List ℕ)) → alias_path_at names self.now a.0 ≡ path_to names self.now.nodes result.0 }
+        ensures own { (names : List (List ℕ)) → (alias_at names self.now a.0).own ≡ own_at names self.now.nodes result.0 }
     {
         self.aliases.paths.nodes[a.0 as usize]
     }
