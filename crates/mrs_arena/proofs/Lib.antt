@@ -15,6 +15,7 @@ pub mod LastLaws
 pub mod FillLaws
 pub mod ClosedLaws
 pub mod TreePaths
+pub mod AliasPaths
 pub mod LimitLaws
 pub mod NameLaws
 pub mod MarkedLaws

@@ -45,28 +45,28 @@ drop_past xs n (x ∷ front) rest e =
 
 -- ---- paths of placed_node nodes
 
-abbrev parents_in : List Placed → List (Option ℕ)
+abbrev pub parents_in : List Placed → List (Option ℕ)
 parents_in ps = map (λ p. p.parent) ps
 
-abbrev own_in : List Placed → ℕ → Own
+abbrev pub own_in : List Placed → ℕ → Own
 own_in ps n = slice_index_or (map (λ p. p.own) ps) n no_own
 
 -- the nodes down to node n, and those down to a parent
-abbrev path_in : List Placed → ℕ → List Own
+abbrev pub path_in : List Placed → ℕ → List Own
 path_in ps n = map (own_in ps) (reverse (ancestors (parents_in ps) n))
 
-abbrev path_above : List Placed → Option ℕ → List Own
+abbrev pub path_above : List Placed → Option ℕ → List Own
 path_above ps None = []
 path_above ps (Some p) = path_in ps p
 
-abbrev IsBefore : Option ℕ → ℕ → Type 0
+abbrev pub IsBefore : Option ℕ → ℕ → Type 0
 IsBefore parent n = IfSome parent (λ p. p < n)
 
 before_is : (parent : Option ℕ) (n p : ℕ) → parent ≡ Some p → IsBefore parent n → p < n
 before_is None n p e before = absurd cc
 before_is (Some q) n p e before = let same : q ≡ p = cc in omega arith
 
-before_later : (parent : Option ℕ) (n m : ℕ) → n ≤ m → IsBefore parent n → IsBefore parent m
+pub before_later : (parent : Option ℕ) (n m : ℕ) → n ≤ m → IsBefore parent n → IsBefore parent m
 before_later None n m le before = tt
 before_later (Some p) n m le before = omega arith
 
@@ -75,7 +75,7 @@ path_above-up ps None = refl
 path_above-up ps (Some p) = refl
 
 -- the path of node n goes on with that of its parent
-path_in-step : (ps : List Placed) (n : ℕ) (p : Placed) (rest : List Placed) → drop n ps ≡ p ∷ rest → IsBefore p.parent n → path_in ps n ≡ path_above ps p.parent ++ p.own ∷ []
+pub path_in-step : (ps : List Placed) (n : ℕ) (p : Placed) (rest : List Placed) → drop n ps ≡ p ∷ rest → IsBefore p.parent n → path_in ps n ≡ path_above ps p.parent ++ p.own ∷ []
 path_in-step ps n p rest e before =
     let here = get_next ps n p rest e in
     let parents = parents_in ps in
@@ -91,7 +91,7 @@ path_in-step ps n p rest e before =
 
 -- ---- leaves of placed_node nodes
 
-abbrev is_leaf_kind : Kind → Bool
+abbrev pub is_leaf_kind : Kind → Bool
 is_leaf_kind kind.Set = false
 is_leaf_kind kind.Group = false
 is_leaf_kind kind.Leaf = true
@@ -99,7 +99,7 @@ is_leaf_kind kind.Alias = false
 is_leaf_kind kind.Instance = false
 
 -- the numbers of the leaves, where the first node has number n
-abbrev leaf_numbers : ℕ → List Placed → List ℕ
+abbrev pub leaf_numbers : ℕ → List Placed → List ℕ
 leaf_numbers n [] = []
 leaf_numbers n (p ∷ ps) = cond (is_leaf_kind p.own.kind) (n ∷ leaf_numbers (n + 1) ps) (leaf_numbers (n + 1) ps)
 
@@ -107,7 +107,7 @@ with_first : (b : Bool) (n : ℕ) (all first rest : List ℕ) → all ≡ first 
 with_first true n all first rest e = ap (λ ns. n ∷ ns) e
 with_first false n all first rest e = e
 
-leaf_numbers-append : (n : ℕ) (ps qs : List Placed) → leaf_numbers n (ps ++ qs) ≡ leaf_numbers n ps ++ leaf_numbers (n + length ps) qs
+pub leaf_numbers-append : (n : ℕ) (ps qs : List Placed) → leaf_numbers n (ps ++ qs) ≡ leaf_numbers n ps ++ leaf_numbers (n + length ps) qs
 leaf_numbers-append n [] qs = let same : n ≡ n + 0 = omega arith in ap (λ k. leaf_numbers k qs) same
 leaf_numbers-append n (p ∷ ps) qs =
     let further : n + 1 + length ps ≡ n + suc (length ps) = omega arith in
@@ -115,17 +115,17 @@ leaf_numbers-append n (p ∷ ps) qs =
     (leaf_numbers-append (n + 1) ps qs ∙ ap (λ k. leaf_numbers (n + 1) ps ++ leaf_numbers k qs) further)
 
 -- nothing stands where no kind may
-none_shaped : (kids : Nodes) → AreShaped [] kids → kids ≡ no_nodes
+pub none_shaped : (kids : Nodes) → AreShaped [] kids → kids ≡ no_nodes
 none_shaped no_nodes shaped = refl
 none_shaped (more t ts) shaped = absurd shaped.0.among
 
-only_alias : (k : Kind) → IsAmong k (kinds_in kind.Leaf) → k ≢ kind.Instance → k ≡ kind.Alias
+pub only_alias : (k : Kind) → IsAmong k (kinds_in kind.Leaf) → k ≢ kind.Instance → k ≡ kind.Alias
 only_alias k (inl alias) is_node = alias
 only_alias k (inr (inl instance)) is_node = absurd (is_node instance)
 only_alias k (inr (inr none)) is_node = absurd none
 
 -- no leaf stands below a leaf: only aliases do, and nothing below them
-below_leaf : (parent : Option ℕ) (n m : ℕ) (kids : Nodes) → AreShaped (kinds_in kind.Leaf) kids → leaf_numbers m (preorders parent n kids) ≡ []
+pub below_leaf : (parent : Option ℕ) (n m : ℕ) (kids : Nodes) → AreShaped (kinds_in kind.Leaf) kids → leaf_numbers m (preorders parent n kids) ≡ []
 below_leaf parent n m no_nodes shaped = refl
 below_leaf parent n m (more (node own kids) ts) shaped =
     let alias = only_alias own.kind shaped.0.among shaped.0.is_node in
@@ -157,7 +157,7 @@ node_paths kind.Instance f n path numbers below here none rest = ap (map f) (non
 
 mutual
   -- a tree whose first node has number n among all nodes
-  paths_one : (ps : List Placed) (parent : Option ℕ) (n : ℕ) (tree : Node) (after : List Placed) → drop n ps ≡ preorder parent n tree ++ after → IsBefore parent n → IsShaped tree
+  pub paths_one : (ps : List Placed) (parent : Option ℕ) (n : ℕ) (tree : Node) (after : List Placed) → drop n ps ≡ preorder parent n tree ++ after → IsBefore parent n → IsShaped tree
       → map (path_in ps) (leaf_numbers n (preorder parent n tree)) ≡ paths_from (path_above ps parent) tree
   paths_one ps parent n (node own kids) after e before shaped =
       let rest = preorders (Some n) (n + 1) kids ++ after in
@@ -168,7 +168,7 @@ mutual
       (λ no_set no_group. below_others own.kind (Some n) (n + 1) (n + 1) kids shaped no_set no_group)
       (below ∙ ap (λ above. paths_among above kids) here)
 
-  paths_all : (ps : List Placed) (kinds : List Kind) (parent : Option ℕ) (n : ℕ) (trees : Nodes) (after : List Placed) → drop n ps ≡ preorders parent n trees ++ after → IsBefore parent n → AreShaped kinds trees
+  pub paths_all : (ps : List Placed) (kinds : List Kind) (parent : Option ℕ) (n : ℕ) (trees : Nodes) (after : List Placed) → drop n ps ≡ preorders parent n trees ++ after → IsBefore parent n → AreShaped kinds trees
       → map (path_in ps) (leaf_numbers n (preorders parent n trees)) ≡ paths_among (path_above ps parent) trees
   paths_all ps kinds parent n no_nodes after e before shaped = refl
   paths_all ps kinds parent n (more t ts) after e before shaped =
@@ -187,12 +187,12 @@ mutual
 abbrev path_by : List Own → List (Option ℕ) → ℕ → List Own
 path_by owns parents n = map (λ k. slice_index_or owns k no_own) (reverse (ancestors parents n))
 
-paths_placed : (names : List (List ℕ)) (nodes : List FlatNode) (numbers : List ℕ) → map (path_to names nodes) numbers ≡ map (path_in (map (placed_node names) nodes)) numbers
+pub paths_placed : (names : List (List ℕ)) (nodes : List FlatNode) (numbers : List ℕ) → map (path_to names nodes) numbers ≡ map (path_in (map (placed_node names) nodes)) numbers
 paths_placed names nodes numbers =
     ap (λ owns. map (path_by owns (parents_of nodes)) numbers) (sym (map-map (λ p. p.own) (placed_node names) nodes))
     ∙ ap (λ parents. map (path_by (map (λ p. p.own) (map (placed_node names) nodes)) parents) numbers) (sym (map-map (λ p. p.parent) (placed_node names) nodes))
 
-is_leaf-kind_of : (k : arena.Kind) → is_leaf_kind (kind_of k) ≡ is_leaf k
+pub is_leaf-kind_of : (k : arena.Kind) → is_leaf_kind (kind_of k) ≡ is_leaf k
 is_leaf-kind_of variant.Set = refl
 is_leaf-kind_of variant.Group = refl
 is_leaf-kind_of variant.Leaf = refl

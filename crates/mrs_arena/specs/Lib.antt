@@ -8,5 +8,6 @@ pub mod Limits
 pub mod Formed
 pub mod Inside
 pub mod Placed
+pub mod AliasPaths
 pub mod Codes
 pub mod Release

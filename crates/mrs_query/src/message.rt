@@ -48,7 +48,6 @@ fn reason_word(why: &Why) -> &'static [u8]
         Why::Doubled => b"doubled",
         Why::TooMany => b"many",
         Why::NoSet => b"no-set",
-        Why::NotYet => b"not-yet",
     }
 }
 

@@ -22,7 +22,7 @@ use Rattle.mrs_arena.specs.Placed.{text_of, item_of, expr_of, own_of_flat, Place
 use Rattle.mrs_arena.proofs.HeldLaws.{parents-placed, count_by-map, is_some-map}
 use Rattle.mrs_arena.proofs.LastOneLaws.{map-at_last}
 use Rattle.mrs_arena.proofs.PutLaws.{length-with_item}
-use Rattle.mrs_schema.specs.Drafted.{counts, drafted, items_at, last_items, named_at, last_named, with_items, with_condition}
+use Rattle.mrs_schema.specs.Drafted.{counts, drafted, items_at, last_items, named_at, last_named, with_items, with_condition, with_preferred}
 use Rattle.mrs_schema.proofs.PlacedLaws.{last_named-with_items}
 use Rattle.mrs_schema.proofs.CountLaws.{more_nodes, counts-at_last}
 use Rattle.spec_instructions.specs.Encodeset.{names_of}
@@ -66,6 +66,9 @@ placed-with_item names it nodes =
 
 pub placed-with_condition : (names : List (List ℕ)) (e : ExprOf ℕ) (nodes : List FlatNode) → map (placed_node names) (flat.with_condition e nodes) ≡ with_condition (Some (expr_of names e)) (map (placed_node names) nodes)
 placed-with_condition names e nodes = map-at_last (placed_node names) _ _ (λ node. refl) nodes
+
+pub placed-with_preferred : (names : List (List ℕ)) (e : ExprOf ℕ) (nodes : List FlatNode) → map (placed_node names) (flat.with_preferred e nodes) ≡ with_preferred (Some (expr_of names e)) (map (placed_node names) nodes)
+placed-with_preferred names e nodes = map-at_last (placed_node names) _ _ (λ node. refl) nodes
 
 -- ---- limits
 

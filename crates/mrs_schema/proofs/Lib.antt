@@ -7,6 +7,7 @@ pub mod KeptLaws
 pub mod ItemLaws
 pub mod OwnLaws
 pub mod NodeLaws
+pub mod AliasLaws
 pub mod StepRules
 pub mod ExprsLaws
 pub mod ConditionLaws

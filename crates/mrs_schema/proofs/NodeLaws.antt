@@ -177,9 +177,9 @@ whole_returns r old mid new parent k here n place e h =
     last : IsLast old.nodes mid.nodes parent e.value n
     last = record { place = place; number = e.stands.0; nodes = e.stands.1 }
 
--- a child that is a node
-pub child_returns : {T : Type 0} (r : Result T ReadFault) (old new : Drafted) (p : ℕ) (above : Above) (here : Spot) (k : Kind) → kind (kind_named (kinds_in above.owner)) here ≡ Done k → child_walk above.named here k ≡ whole k above.named here >>> (λ n. Done (Some n))
-    → Puts r (whole k above.named here) (counts old) (counts new) (λ n _. new.nodes ≡ old.nodes ++ preorder (Some p) (length old.nodes) n) → Puts r (at_spot child above here) (counts old) (counts new) (λ found _. new.nodes ≡ old.nodes ++ preorders (Some p) (length old.nodes) (nodes_of (found ∷ [])))
-child_returns r old new p above here k is walk h =
-    Puts-same r _ _ (counts old) (counts new) _ (child_kind above here k is ∙ walk)
-    (Puts-last r (whole k above.named here) Some (counts old) (counts new) _ _ (λ n x put. put ∙ ap (λ ns. old.nodes ++ ns) (sym (alone (Some p) (length old.nodes) n))) h)
+-- a child that is a node, by the walk over it
+pub child_returns : {T : Type 0} (r : Result T ReadFault) (old new : Drafted) (p : ℕ) (above : Above) (here : Spot) (k : Kind) (walk : Walk Node) → kind (kind_named (kinds_in above.owner)) here ≡ Done k → child_walk above.named here k ≡ walk >>> (λ n. Done (Some n))
+    → Puts r walk (counts old) (counts new) (λ n _. new.nodes ≡ old.nodes ++ preorder (Some p) (length old.nodes) n) → Puts r (at_spot child above here) (counts old) (counts new) (λ found _. new.nodes ≡ old.nodes ++ preorders (Some p) (length old.nodes) (nodes_of (found ∷ [])))
+child_returns r old new p above here k walk is goes h =
+    Puts-same r _ _ (counts old) (counts new) _ (child_kind above here k is ∙ goes)
+    (Puts-last r walk Some (counts old) (counts new) _ _ (λ n x put. put ∙ ap (λ ns. old.nodes ++ ns) (sym (alone (Some p) (length old.nodes) n))) h)

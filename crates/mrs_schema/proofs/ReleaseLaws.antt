@@ -5,11 +5,13 @@ use Rattle.spec_walk.specs.Limits.{◌>>=◌}
 use Rattle.spec_walk.specs.Walk.{gives}
 use Rattle.spec_walk.specs.Spot.{Spot, root}
 use Rattle.spec_instructions.specs.Paths.{paths_from}
+use Rattle.spec_instructions.specs.Aliases.{aliases_in}
 use Rattle.spec_instructions.specs.Walk.{instructions}
 use Rattle.spec_instructions.proofs.ShapeLaws.{read_shaped}
 use Rattle.mrs_arena.specs.Flat.{ArenaParts}
 use Rattle.mrs_arena.specs.Placed.{placed_node, expr_of, preorder, AreHeld}
 use Rattle.mrs_arena.proofs.TreePaths.{paths_of_tree}
+use Rattle.mrs_arena.proofs.AliasPaths.{aliases_of_tree}
 use Rattle.mrs_walk.specs.Gives.{Ends}
 use Rattle.mrs_schema.specs.Drafted.{Drafted, counts}
 use Rattle.mrs_schema.specs.Release.{IsArenaOf, arena_counts}
@@ -38,4 +40,5 @@ arena_read isa d before names a old new here is start e same put exprs held =
       held = held_here;
       release = release_of_tree names a.nodes e.value tree shaped held_here;
       paths = ap (λ r. r >>= λ read. Ok (paths_from [] read.0)) walked ∙ ap Ok (sym (paths_of_tree names a.nodes e.value tree shaped.shaped));
+      aliases = ap (λ r. r >>= λ read. Ok (aliases_in read.0)) walked ∙ ap Ok (sym (aliases_of_tree names a.nodes e.value tree shaped));
     }

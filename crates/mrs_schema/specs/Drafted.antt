@@ -81,6 +81,11 @@ abbrev pub with_condition : Option Expr → List Placed → List Placed
 with_condition None nodes = nodes
 with_condition (Some e) nodes = at_last (λ p. record p { own = record p.own { condition = Some e } }) nodes
 
+-- the nodes with a preference at the last of them, if there is one
+abbrev pub with_preferred : Option Expr → List Placed → List Placed
+with_preferred None nodes = nodes
+with_preferred (Some e) nodes = at_last (λ p. record p { own = record p.own { preferred = Some e } }) nodes
+
 -- the nodes with more items at the last of them
 abbrev pub with_items : List Item → List Placed → List Placed
 with_items items nodes = at_last (λ p. record p { own = more_items items p.own }) nodes

@@ -4,10 +4,11 @@ use Rattle.serde_json.specs.Data.{Data}
 use Rattle.spec_walk.specs.Limits.{Counts}
 use Rattle.spec_instructions.specs.Tree.{Node}
 use Rattle.spec_instructions.specs.Shape.{IsSetTree}
-use Rattle.spec_instructions.specs.Reading.{tree_read, paths_read}
+use Rattle.spec_instructions.specs.Reading.{tree_read, paths_read, aliases_read}
 use Rattle.mrs_arena.specs.Flat.{ArenaParts}
 use Rattle.mrs_arena.specs.Limits.{leaf_count, alias_count}
 use Rattle.mrs_arena.specs.Placed.{IsTree, AreHeld, paths_of}
+use Rattle.mrs_arena.specs.AliasPaths.{aliases_by}
 use Rattle.mrs_arena.specs.Release.{IsRelease}
 use Rattle.mrs_walk.specs.Faults.{fault_of}
 use Rattle.mrs_walk.specs.declared.fault.ReadFault.{ReadFault}
@@ -26,6 +27,7 @@ pub record IsArenaOf (isa : List ℕ) (d : Data) (before names : List (List ℕ)
   pub held : AreHeld names a.nodes
   pub release : IsRelease names a.nodes
   pub paths : paths_read isa before d ≡ Ok (paths_of names a.nodes)
+  pub aliases : aliases_read isa before d ≡ Ok (aliases_by names a.nodes)
 
 -- that, or the first fault, unless memory ran out
 abbrev pub ReadsRelease : List ℕ → Data → List (List ℕ) → List (List ℕ) → Result ArenaParts ReadFault → Type 0

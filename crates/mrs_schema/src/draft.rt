@@ -39,7 +39,7 @@ impl Draft {
     ghost use Rattle.mrs_arena.specs.Placed.{text_of, item_of, kind_of, placed_node, expr_of, AreHeld};
     ghost use Rattle.mrs_arena.specs.Views.{flat_item};
     ghost use Rattle.mrs_arena.specs.Expressions.{expr_at, made_by, with_list, HasParts, HasName};
-    ghost use Rattle.mrs_schema.specs.Drafted.{counts, nothing, parents, last_items, last_named, with_items, with_condition};
+    ghost use Rattle.mrs_schema.specs.Drafted.{counts, nothing, parents, last_items, last_named, with_items, with_condition, with_preferred};
     ghost use Rattle.mrs_walk.specs.Gives.{Puts};
     ghost use Rattle.mrs_walk.specs.Here.{spot_of};
 
@@ -172,6 +172,15 @@ impl Draft {
         ensures { self.new ≡ record self.old { nodes = with_condition (Some (expr_at self.old.exprs e.0)) self.old.nodes } }
     {
         self.builder.condition(e);
+    }
+
+    /// Sets the preference of the last node.
+    pub fn preferred(&mut self, e: ExprId)
+        requires some { 0 < length self.old.nodes }
+        requires put { e.0 < length self.old.exprs }
+        ensures { self.new ≡ record self.old { nodes = with_preferred (Some (expr_at self.old.exprs e.0)) self.old.nodes } }
+    {
+        self.builder.preferred(e);
     }
 
     /// Whether an item of the last node has that name.

@@ -1,6 +1,7 @@
 //! Reads the architecture's JSON documents, and names the first place where one leaves the profile.
 #![tactic(auto)]
 
+mod aliases;
 mod bits;
 mod constraints;
 mod draft;

@@ -16,6 +16,7 @@ ghost use Rattle.mrs_schema.specs.Drafted.{counts, parents, named_at, last_items
 ghost use Rattle.mrs_schema.specs.Kinds.{child_kind_of};
 ghost use Rattle.mrs_schema.specs.Nodes.{children, whole, named_above};
 
+use crate::aliases::read_alias;
 use crate::draft::Draft;
 use crate::expressions::read_expression;
 use crate::items::read_encodeset;
@@ -77,7 +78,7 @@ fn read_child(
     match read_child_kind(here, owner)? {
         ChildKind::Group => read_node(here, Kind::Group, Some(parent), draft),
         ChildKind::Leaf => read_node(here, Kind::Leaf, Some(parent), draft),
-        ChildKind::Alias => Err(here.fault(Why::NotYet)),
+        ChildKind::Alias => read_alias(here, parent, draft),
         ChildKind::Instance => Ok(()),
     }
 }
@@ -151,7 +152,7 @@ fn kind_in_leaf(text: &str) -> Option<ChildKind>
 
 /// What a node says of itself: it is put below a node, or alone, with the items of its encodeset and its condition.
 #[tactic(auto, using(crate::proofs::KeptLaws::kept))]
-fn read_own(
+pub(crate) fn read_own(
     here: &Here<'_>,
     kind: Kind,
     parent: Option<NodeId>,

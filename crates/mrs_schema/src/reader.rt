@@ -15,7 +15,7 @@ use std::alloc::Global;
 /// The tree of the instruction set named `isa` in an Instructions document, whose names are held in `names`.
 ///
 /// The document is read by the profile after AARCHMRS, Arm's architecture data as JSON. The fault is the first of
-/// the walk over it. Aliases are not read yet: the first of them in the set is a fault.
+/// the walk over it.
 ///
 /// Names that were held before keep their numbers, also where there is a fault.
 pub fn read_instructions(

@@ -3,7 +3,7 @@ use Rattle.bit_pattern.specs.Views.{refusal_of}
 use Rattle.spec_walk.specs.Event as event
 use Rattle.spec_walk.specs.Event.{Fault}
 use Rattle.mrs_walk.specs.declared.fault.Why.{Why}
-use Rattle.mrs_walk.specs.declared.fault.Why.TheVariants.{Missing, UnlistedKind, WrongShape, BadPattern, BadRange, BadName, Doubled, TooMany, NoSet, NotYet}
+use Rattle.mrs_walk.specs.declared.fault.Why.TheVariants.{Missing, UnlistedKind, WrongShape, BadPattern, BadRange, BadName, Doubled, TooMany, NoSet}
 use Rattle.mrs_walk.specs.declared.fault.SchemaFault.{SchemaFault}
 
 abbrev pub why_of : Why → event.Why
@@ -16,7 +16,6 @@ why_of BadName = event.BadName
 why_of Doubled = event.Doubled
 why_of TooMany = event.TooMany
 why_of NoSet = event.NoSet
-why_of NotYet = event.NotYet
 
 abbrev pub fault_of : SchemaFault → Fault
 fault_of f = record { at = f.path; why = why_of f.why }

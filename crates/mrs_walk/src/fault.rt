@@ -39,9 +39,6 @@ pub enum Why {
     /// No set has the chosen name.
     #[error("no-set")]
     NoSet,
-    /// A condition or an alias, which no reader reads yet.
-    #[error("not-yet")]
-    NotYet,
 }
 
 /// The first fault of a document: the JSON Pointer (RFC 6901) of its place, and the reason.

@@ -9,7 +9,7 @@ use Rattle.spec_bits.specs.PatternText.{PatternRefusal, pattern_in}
 use Rattle.spec_bits.specs.Item.{Item}
 use Rattle.spec_walk.specs.Event.{BadName, BadRange, Doubled, WrongShape, NoSet, UnlistedKind, TooMany}
 use Rattle.spec_walk.specs.Limits.{Counts}
-use Rattle.spec_walk.specs.Walk.{Done, ◌>>>◌, gives}
+use Rattle.spec_walk.specs.Walk.{Walk, Done, ◌>>>◌, gives}
 use Rattle.spec_walk.specs.Spot.{Spot, unless, needs, an_object, elements, text, needed, optional, kind, kind_text, exactly, number_below, named, each}
 use Rattle.spec_walk.specs.Descend.{Inside, inside_of}
 use Rattle.spec_walk.proofs.EveryLaws.{Every, every-gives, every-then, every-next, every-unless, every-optional, every-each, EveryInside, every-inside}
@@ -18,7 +18,7 @@ use Rattle.spec_instructions.specs.Name.{is_name}
 use Rattle.spec_instructions.specs.Kind.{Kind, Set, Group, Leaf, Alias, Instance, kinds_in, kind_named}
 use Rattle.spec_instructions.specs.Encodeset.{ItemKind, Bits, Field, ShouldBeBits, item_kind_named, is_range, range, pattern, value, is_binary, marked_by, masked, should_be, is_field_name, names_of, field_name, item_parts, named_in, within_limits, item, encodeset}
 use Rattle.spec_instructions.specs.Tree.{Own, Node}
-use Rattle.spec_instructions.specs.Walk.{node_name, counted, own, Above, nodes_of, node_of, child_of, child, chosen_in, is_chosen, set_of, set, instructions}
+use Rattle.spec_instructions.specs.Walk.{node_name, counted, own, Above, nodes_of, node_of, alias_of, child_of, child, chosen_in, is_chosen, set_of, set, instructions}
 use Rattle.spec_instructions.specs.Shape.{IsAmong, MayStand, node_kind, IsShaped, AreShaped, IsSoundItem, IsSoundOwn, IsSound, AreSound, IsSetTree}
 
 -- ---- what is found is one of those among which it was looked for
@@ -184,19 +184,26 @@ node_is k above here inside keeps =
     let below = below_all (kinds_in k) found h in
     record { kind_is = is.0; shaped = subst (λ j. AreShaped (kinds_in j) (nodes_of found)) (sym is.0) below.0; sound = (is.1, below.1) }))
 
+-- an alias, with nothing below it
+alias_is : (above : ℕ) (here : Spot) → Every (IsNodeOf Alias) (alias_of above here)
+alias_is above here =
+    every-then (IsOwn Alias) (IsNodeOf Alias) (own Alias above here) _ (own_is Alias above here) (λ o is.
+    every-next (IsNodeOf Alias) (optional (codes "preferred") expression here) _ (λ preferred.
+    record { kind_is = is.0; shaped = tt; sound = (record { name = is.1.name; items = is.1.items }, tt) }))
+
 child_keeps : (above : Above) (here : Spot) (inside : Inside Above (Option Node)) → EveryInside Below inside → Every (Below above) (child above here inside)
 child_keeps above here inside keeps =
     every-then (λ k. IsAmong k (kinds_in above.owner)) (Below above) (kind (kind_named (kinds_in above.owner)) here) (child_of above.named here inside) (among-kind (kinds_in above.owner) here) of_kind
   where
-    put : (k : Kind) → IsAmong k (kinds_in above.owner) → k ≢ Instance → Every (Below above) (node_of k above.named here inside >>> λ n. Done (Some n))
-    put k among is_node = every-then (IsNodeOf k) (Below above) (node_of k above.named here inside) (λ n. Done (Some n)) (node_is k above.named here inside keeps)
+    put : (k : Kind) (walk : Walk Node) → Every (IsNodeOf k) walk → IsAmong k (kinds_in above.owner) → k ≢ Instance → Every (Below above) (walk >>> λ n. Done (Some n))
+    put k walk every among is_node = every-then (IsNodeOf k) (Below above) walk (λ n. Done (Some n)) every
         (λ n is. record { place = subst (MayStand (kinds_in above.owner)) (sym is.kind_is) (record { among = among; is_node = is_node }); shaped = is.shaped; sound = is.sound })
 
     of_kind : (k : Kind) → IsAmong k (kinds_in above.owner) → Every (Below above) (child_of above.named here inside k)
-    of_kind Set among = put Set among (λ e. absurd cc)
-    of_kind Group among = put Group among (λ e. absurd cc)
-    of_kind Leaf among = put Leaf among (λ e. absurd cc)
-    of_kind Alias among = tt
+    of_kind Set among = put Set (node_of Set above.named here inside) (node_is Set above.named here inside keeps) among (λ e. absurd cc)
+    of_kind Group among = put Group (node_of Group above.named here inside) (node_is Group above.named here inside keeps) among (λ e. absurd cc)
+    of_kind Leaf among = put Leaf (node_of Leaf above.named here inside) (node_is Leaf above.named here inside keeps) among (λ e. absurd cc)
+    of_kind Alias among = put Alias (alias_of above.named here) (alias_is above.named here) among (λ e. absurd cc)
     of_kind Instance among = tt
 
 -- ---- the document

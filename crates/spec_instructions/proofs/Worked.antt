@@ -5,13 +5,13 @@ use Rattle.serde_json.specs.Read.{read}
 use Rattle.serde_json.proofs.OnLiterals.{serde_json_on_literals}
 use Rattle.spec_bits.specs.Pattern.{One, Either}
 use Rattle.spec_bits.specs.PatternText.{Unquoted}
-use Rattle.spec_walk.specs.Event.{Why, Fault, Missing, UnlistedKind, WrongShape, BadPattern, BadRange, BadName, Doubled, NoSet, NotYet}
+use Rattle.spec_walk.specs.Event.{Why, Fault, Missing, UnlistedKind, WrongShape, BadPattern, BadRange, BadName, Doubled, NoSet}
 use Rattle.spec_walk.specs.Limits.{◌>>=◌}
 use Rattle.spec_expressions.specs.Expression.{Name}
-use Rattle.spec_instructions.specs.Kind.{Set, Group, Leaf}
+use Rattle.spec_instructions.specs.Kind.{Set, Group, Leaf, Alias}
 use Rattle.spec_instructions.specs.Tree.{node, no_nodes, more, bare}
 use Rattle.spec_instructions.specs.Paths.{path_name}
-use Rattle.spec_instructions.specs.Reading.{tree_read, paths_read}
+use Rattle.spec_instructions.specs.Reading.{tree_read, paths_read, aliases_read}
 
 -- the names of the leaves of a text, with the set `A64` chosen, or its first fault
 abbrev leaves_in : List ℕ → Option (Result (List (List ℕ)) Fault)
@@ -84,10 +84,37 @@ no_expression : leaves_in (codes "{\"instructions\":[{\"_type\":\"Instruction.In
 unfolding digits serde_json_on_literals
 no_expression = refl
 
--- an alias is not read yet
-aliased : leaves_in (codes "{\"instructions\":[{\"_type\":\"Instruction.InstructionSet\",\"name\":\"A64\",\"children\":[{\"_type\":\"Instruction.Instruction\",\"name\":\"l\",\"children\":[{\"_type\":\"Instruction.InstructionInstance\"},{\"_type\":\"Instruction.InstructionAlias\"}]}]}]}") ≡ at_place (codes "/instructions/0/children/0/children/1") NotYet
+-- an alias is read: its name, its items, its condition and its preference, and none of its children
+aliased : option_map (λ d. tree_read (codes "A64") [] d) (read (codes "{\"instructions\":[{\"_type\":\"Instruction.InstructionSet\",\"name\":\"A64\",\"children\":[{\"_type\":\"Instruction.Instruction\",\"name\":\"l\",\"children\":[{\"_type\":\"Instruction.InstructionInstance\"},{\"_type\":\"Instruction.InstructionAlias\",\"name\":\"m\",\"encoding\":{\"_type\":\"Instruction.Encodeset.Encodeset\",\"width\":32,\"values\":[{\"_type\":\"Instruction.Encodeset.Field\",\"name\":\"Rd\",\"range\":{\"start\":3,\"width\":2},\"value\":{\"_type\":\"Values.Value\",\"value\":\"1x\"}}]},\"condition\":null,\"preferred\":{\"_type\":\"AST.Identifier\",\"value\":\"F\"},\"children\":7},{\"_type\":\"Instruction.InstructionAlias\",\"name\":\"n\",\"preferred\":null}]}]}]}"))
+    ≡ Some (Ok (
+      node (bare Set (codes "A64")) (more (node (bare Leaf (codes "l"))
+          (more (node (record (bare Alias (codes "m")) { items = record { name = Some (codes "Rd"); start = 3; digits = One ∷ Either ∷ []; marks = false ∷ false ∷ [] } ∷ []; preferred = Some (Name (codes "F")) }) no_nodes)
+          (more (node (bare Alias (codes "n")) no_nodes) no_nodes))) no_nodes),
+      record { held = codes "A64" ∷ codes "l" ∷ codes "m" ∷ codes "Rd" ∷ codes "F" ∷ codes "n" ∷ []; nodes = 4; leaves = 1; aliases = 2; expressions = 1 },
+    ))
 unfolding digits serde_json_on_literals
 aliased = refl
+
+-- the aliases of two leaves, the second of which has one
+two_leaves_aliased : option_map (λ d. aliases_read (codes "A64") [] d) (read (codes "{\"instructions\":[{\"_type\":\"Instruction.InstructionSet\",\"name\":\"A64\",\"children\":[{\"_type\":\"Instruction.Instruction\",\"name\":\"l\"},{\"_type\":\"Instruction.Instruction\",\"name\":\"k\",\"children\":[{\"_type\":\"Instruction.InstructionAlias\",\"name\":\"m\"}]}]}]}"))
+    ≡ Some (Ok (record { leaf = 1; above = bare Set (codes "A64") ∷ bare Leaf (codes "k") ∷ []; own = bare Alias (codes "m") } ∷ []))
+unfolding digits serde_json_on_literals
+two_leaves_aliased = refl
+
+-- the name comes first
+nameless_alias : leaves_in (codes "{\"instructions\":[{\"_type\":\"Instruction.InstructionSet\",\"name\":\"A64\",\"children\":[{\"_type\":\"Instruction.Instruction\",\"name\":\"l\",\"children\":[{\"_type\":\"Instruction.InstructionAlias\",\"preferred\":true}]}]}]}") ≡ at_place (codes "/instructions/0/children/0/children/0") (Missing (codes "name"))
+unfolding digits serde_json_on_literals
+nameless_alias = refl
+
+-- a preference is an expression, which no leaf has
+no_preference : leaves_in (codes "{\"instructions\":[{\"_type\":\"Instruction.InstructionSet\",\"name\":\"A64\",\"children\":[{\"_type\":\"Instruction.Instruction\",\"name\":\"l\",\"preferred\":true,\"children\":[{\"_type\":\"Instruction.InstructionAlias\",\"name\":\"m\",\"preferred\":true}]}]}]}") ≡ at_place (codes "/instructions/0/children/0/children/0/preferred") WrongShape
+unfolding digits serde_json_on_literals
+no_preference = refl
+
+-- an alias stands in leaves alone
+alias_in_set : leaves_in (codes "{\"instructions\":[{\"_type\":\"Instruction.InstructionSet\",\"name\":\"A64\",\"children\":[{\"_type\":\"Instruction.InstructionAlias\",\"name\":\"m\"}]}]}") ≡ at_place (codes "/instructions/0/children/0") UnlistedKind
+unfolding digits serde_json_on_literals
+alias_in_set = refl
 
 -- a leaf stands in no leaf
 leaf_in_leaf : leaves_in (codes "{\"instructions\":[{\"_type\":\"Instruction.InstructionSet\",\"name\":\"A64\",\"children\":[{\"_type\":\"Instruction.Instruction\",\"name\":\"l\",\"children\":[{\"_type\":\"Instruction.Instruction\",\"name\":\"l\"}]}]}]}") ≡ at_place (codes "/instructions/0/children/0/children/0") UnlistedKind

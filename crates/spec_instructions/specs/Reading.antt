@@ -1,4 +1,4 @@
--- What an Instructions document gives: the tree of the chosen set and the paths to its leaves, or its first fault.
+-- What an Instructions document gives: the tree of the chosen set, the paths to its leaves and its aliases, or its first fault.
 use Rattle.std.specs.Prelude.{◌≡◌, ℕ, List, [], Result, Ok}
 use Rattle.serde_json.specs.Data.{Data}
 use Rattle.spec_walk.specs.Event.{Fault}
@@ -9,6 +9,7 @@ use Rattle.spec_instructions.specs.Tree.{Own, Node}
 use Rattle.spec_instructions.specs.Walk.{instructions}
 use Rattle.spec_instructions.specs.Shape.{IsSetTree}
 use Rattle.spec_instructions.specs.Paths.{paths_from}
+use Rattle.spec_instructions.specs.Aliases.{AliasPath, aliases_in}
 
 -- the tree of the set of that name with the counts behind the walk, where it meets no fault and passes no limit; `held` are the texts that have a number before it
 abbrev pub tree_read : List ℕ → List (List ℕ) → Data → Result (Node × Counts) Fault
@@ -17,6 +18,10 @@ tree_read isa held d = gives (instructions isa (root d)) (from_held held)
 -- the paths to the leaves of that tree, leaf number k being the k-th, from 0
 abbrev pub paths_read : List ℕ → List (List ℕ) → Data → Result (List (List Own)) Fault
 paths_read isa held d = tree_read isa held d >>= λ read. Ok (paths_from [] read.0)
+
+-- the aliases of that tree, alias number a being the a-th, from 0
+abbrev pub aliases_read : List ℕ → List (List ℕ) → Data → Result (List AliasPath) Fault
+aliases_read isa held d = tree_read isa held d >>= λ read. Ok (aliases_in read.0)
 
 -- ---- what this comes to
 

@@ -1,8 +1,8 @@
 -- An Instructions document as a walk, whose value is the nested tree of the chosen set.
 use Rattle.std.specs.Prelude.{ℕ, ◌+◌, List, [], ◌∷◌, Bool, true, false, not, ◌&&◌, Option, Some, None, is_some, codes, bytes_eq, unwrap_or, ⊤}
-use Rattle.spec_walk.specs.Event.{ANode, ALeaf, AnAlias, BadName, Doubled, NoSet, NotYet}
+use Rattle.spec_walk.specs.Event.{ANode, ALeaf, AnAlias, BadName, Doubled, NoSet}
 use Rattle.spec_walk.specs.Walk.{Walk, Done, ◌>>>◌}
-use Rattle.spec_walk.specs.Spot.{Spot, wrong, unless, needs, an_object, elements, text, needed, optional, kind, named, one_more, each}
+use Rattle.spec_walk.specs.Spot.{Spot, unless, needs, an_object, elements, text, needed, optional, kind, named, one_more, each}
 use Rattle.spec_walk.specs.Descend.{Inside, Reader, inside_of}
 use Rattle.spec_expressions.specs.Reading.{expression}
 use Rattle.spec_instructions.specs.Name.{is_name}
@@ -57,12 +57,19 @@ node_of k above here inside =
     inside.optional_parts (record { owner = k; named = above + named_in o.items }) (codes "children") >>> λ found.
     Done (node o (nodes_of found))
 
--- an element of `children` by its kind: an alias is not read yet, an instance is passed over, and no set stands there
+-- an alias, which has no children: what it says of itself, and when it is preferred
+abbrev pub alias_of : ℕ → Spot → Walk Node
+alias_of above here =
+    own Alias above here >>> λ o.
+    optional (codes "preferred") expression here >>> λ preferred.
+    Done (node (record o { preferred = preferred }) no_nodes)
+
+-- an element of `children` by its kind: an instance is passed over, and no set stands there
 abbrev pub child_of : ℕ → Spot → Inside Above (Option Node) → Kind → Walk (Option Node)
 child_of above here inside Set = node_of Set above here inside >>> λ n. Done (Some n)
 child_of above here inside Group = node_of Group above here inside >>> λ n. Done (Some n)
 child_of above here inside Leaf = node_of Leaf above here inside >>> λ n. Done (Some n)
-child_of above here inside Alias = wrong here NotYet
+child_of above here inside Alias = alias_of above here >>> λ n. Done (Some n)
 child_of above here inside Instance = Done None
 
 -- an element of `children`, of one of the kinds that may stand there

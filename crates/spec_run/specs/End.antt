@@ -1,6 +1,6 @@
 -- How a run ends: its status, the number with which the program ends, and the text on `err`.
 use Rattle.std.specs.Prelude.{ℕ, List, [], ◌∷◌, ◌++◌, codes, decimal, ⊤}
-use Rattle.spec_walk.specs.Event.{Fault, Why, Missing, UnlistedKind, WrongShape, BadPattern, BadRange, BadName, Doubled, TooMany, NoSet, NotYet}
+use Rattle.spec_walk.specs.Event.{Fault, Why, Missing, UnlistedKind, WrongShape, BadPattern, BadRange, BadName, Doubled, TooMany, NoSet}
 
 -- what a status names: the Instructions document, the log, or the stream
 pub data Which : Type 0 where
@@ -82,7 +82,6 @@ why_text BadName = codes "name"
 why_text Doubled = codes "doubled"
 why_text TooMany = codes "many"
 why_text NoSet = codes "no-set"
-why_text NotYet = codes "not-yet"
 
 -- `json`, or the reason and the JSON Pointer of the place, or `syntax` and the byte
 abbrev pub fault_text : DocFault → List ℕ

@@ -13,7 +13,6 @@ pub data Why : Type 0 where
   Doubled : Why
   TooMany : Why
   NoSet : Why
-  NotYet : Why
 
 -- a fault: the Pointer of its place, and the reason
 pub record Fault : Type 0 where

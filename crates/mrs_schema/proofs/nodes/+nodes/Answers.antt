@@ -4,7 +4,9 @@ use Rattle.mrs_arena.specs.Placed.{kind_of}
 use Rattle.mrs_walk.specs.Here.{spot_of}
 use Rattle.mrs_walk.proofs.AnswerLaws.{Puts-exit}
 use Rattle.mrs_walk.proofs.DepthLaws.{member_shallower, element_shallower}
-use Rattle.spec_instructions.specs.Kind.{Group, Leaf}
+use Rattle.spec_instructions.specs.Kind.{Group, Leaf, Alias}
+use Rattle.spec_instructions.specs.Walk.{alias_of}
+use Rattle.mrs_schema.specs.Nodes.{whole}
 use Rattle.mrs_schema.specs.Drafted.{named_at}
 use Rattle.mrs_schema.specs.Kinds.{child_kind_of}
 use Rattle.mrs_schema.proofs.NodeLaws.{ChildrenRead-none, ChildrenRead-next, ChildrenRead-fails, children_fail, children_return, child_returns, whole_returns, IsLast, last-place}
@@ -12,11 +14,15 @@ use Rattle.mrs_schema.proofs.nodes.+nodes.Goals as goal
 
 pub read_child-returns-in-Group-clause-walk : goal.read_child-returns-in-Group-clause-walk
 read_child-returns-in-Group-clause-walk t c =
-    child_returns c.read_node.result c.args.draft.now c.read_node.new.draft c.args.parent.0 (record { owner = kind_of c.args.owner; named = named_at c.args.draft.now.nodes c.args.parent.0 }) (spot_of c.args.here.now) Group (c.in_ok-read_child_kind.ensures ∙ ap (λ k. Done (child_kind_of k)) c.in-Group.is) refl c.read_node.ensures.walk
+    child_returns c.read_node.result c.args.draft.now c.read_node.new.draft c.args.parent.0 (record { owner = kind_of c.args.owner; named = named_at c.args.draft.now.nodes c.args.parent.0 }) (spot_of c.args.here.now) Group (whole Group (named_at c.args.draft.now.nodes c.args.parent.0) (spot_of c.args.here.now)) (c.in_ok-read_child_kind.ensures ∙ ap (λ k. Done (child_kind_of k)) c.in-Group.is) refl c.read_node.ensures.walk
 
 pub read_child-returns-in-Leaf-clause-walk : goal.read_child-returns-in-Leaf-clause-walk
 read_child-returns-in-Leaf-clause-walk t c =
-    child_returns c.read_node-in-Leaf.result c.args.draft.now c.read_node-in-Leaf.new.draft c.args.parent.0 (record { owner = kind_of c.args.owner; named = named_at c.args.draft.now.nodes c.args.parent.0 }) (spot_of c.args.here.now) Leaf (c.in_ok-read_child_kind.ensures ∙ ap (λ k. Done (child_kind_of k)) c.in-Leaf.is) refl c.read_node-in-Leaf.ensures.walk
+    child_returns c.read_node-in-Leaf.result c.args.draft.now c.read_node-in-Leaf.new.draft c.args.parent.0 (record { owner = kind_of c.args.owner; named = named_at c.args.draft.now.nodes c.args.parent.0 }) (spot_of c.args.here.now) Leaf (whole Leaf (named_at c.args.draft.now.nodes c.args.parent.0) (spot_of c.args.here.now)) (c.in_ok-read_child_kind.ensures ∙ ap (λ k. Done (child_kind_of k)) c.in-Leaf.is) refl c.read_node-in-Leaf.ensures.walk
+
+pub read_child-returns-in-Alias-clause-walk : goal.read_child-returns-in-Alias-clause-walk
+read_child-returns-in-Alias-clause-walk t c =
+    child_returns c.read_alias.result c.args.draft.now c.read_alias.new.draft c.args.parent.0 (record { owner = kind_of c.args.owner; named = named_at c.args.draft.now.nodes c.args.parent.0 }) (spot_of c.args.here.now) Alias (alias_of (named_at c.args.draft.now.nodes c.args.parent.0) (spot_of c.args.here.now)) (c.in_ok-read_child_kind.ensures ∙ ap (λ k. Done (child_kind_of k)) c.in-Alias.is) refl c.read_alias.ensures.walk
 
 pub read_children-loop-i-init : goal.read_children-loop-i-init
 read_children-loop-i-init t c = ChildrenRead-none (record { owner = kind_of c.args.owner; named = named_at c.args.draft.now.nodes c.args.parent.0 }) _ c.args.parent.0 c.args.draft.now _ c.requires refl
