@@ -3,6 +3,7 @@ pub mod NumberLaws
 pub mod TokenLaws
 pub mod PairLaws
 pub mod ReadBackLaws
+pub mod StreamsBack
 pub mod Streams
 pub mod StreamLines
 pub mod CutLaws

@@ -1,5 +1,5 @@
 -- Bare lines are read back to their words.
-use Rattle.std.specs.Prelude.{ℕ, ◌^◌, ◌≡◌, ◌≢◌, ◌<◌, ◌≤◌, List, length, All, true, codes, Ok}
+use Rattle.std.specs.Prelude.{ℕ, ◌^◌, ◌≡◌, ◌≢◌, ◌<◌, ◌≤◌, ◌%◌, List, length, All, true, codes, Ok, None}
 use Rattle.spec_walk.specs.Limits.{leaf_limit}
 use Rattle.spec_instructions.specs.Name.{is_name}
 use Rattle.spec_instructions.specs.Tree.{Own}
@@ -10,7 +10,9 @@ use Rattle.spec_decode.specs.Machine.{Machine}
 use Rattle.spec_encoding.specs.PathLayout.{shown}
 use Rattle.spec_lines.specs.Given.{pair_limit}
 use Rattle.spec_lines.specs.BareLine.{bare_text}
+use Rattle.spec_lines.specs.Streams.{Bare, stream_lines}
 use Rattle.spec_lines.specs.Parsed.{parsed}
+use Rattle.spec_lines.specs.Assembly.{assembled}
 
 -- a shown field has a name, which is not `rest`
 pub record IsNamed (field : Field) : Type 0 where
@@ -32,3 +34,7 @@ pub record IsReadable (machine : Machine) : Type 0 where
 -- what a bare line says, without its LF, is its word
 abbrev pub BareLinesAreRead : Type 0
 BareLinesAreRead = (machine : Machine) (w : ℕ) → w < 2 ^ 32 → IsReadable machine → parsed machine (bare_text machine w) ≡ Ok w
+
+-- so the bare lines of whole words are assembled to the words again
+abbrev pub BareStreamsAreRead : Type 0
+BareStreamsAreRead = (machine : Machine) (bytes : List ℕ) → All (λ byte. byte < 2 ^ 8) bytes → length bytes % 4 ≡ 0 → IsReadable machine → assembled machine (stream_lines Bare machine bytes) ≡ record { bytes = bytes; refused = None }
