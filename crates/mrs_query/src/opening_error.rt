@@ -1,5 +1,5 @@
 //! Why what a command names is not opened.
-ghost use Rattle.std.specs.Prelude.{◌≡◌};
+ghost use Rattle.std.specs.Prelude.{◌≡◌, []};
 ghost use Rattle.mrs_query.specs.End.{end_of};
 ghost use Rattle.mrs_query.specs.Opened.{ending};
 
@@ -22,7 +22,7 @@ pub(crate) enum OpeningError {
 impl OpeningError {
     /// How the run ends then.
     pub(crate) fn status(self) -> Status
-        ensures { end_of result ≡ ending self }
+        ensures { end_of result [] ≡ ending self }
     {
         match self {
             OpeningError::NotRead { which } => Status::ReadFault { which },

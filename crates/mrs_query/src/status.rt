@@ -1,5 +1,5 @@
 //! How a run ends.
-ghost use Rattle.std.specs.Prelude.{◌≡◌};
+ghost use Rattle.std.specs.Prelude.{◌≡◌, ℕ, List};
 ghost use Rattle.spec_run.specs.End.{exit_number};
 ghost use Rattle.mrs_query.specs.End.{end_of};
 
@@ -57,7 +57,7 @@ pub enum Status {
 impl Status {
     /// The number with which the program ends.
     pub fn exit_number(&self) -> u8
-        ensures { result ≡ exit_number (end_of self.now) }
+        ensures { (reason : List ℕ) → result ≡ exit_number (end_of self.now reason) }
     {
         match self {
             Status::Done => 0,
