@@ -1,6 +1,6 @@
 -- The encoder's answer on the pairs that are kept, and the encoding of all.
-use Rattle.std.proofs.Common.{◌≡◌, ◌≢◌, ◌∙◌, sym, ap, refl, subst, ℕ, zero, suc, ◌+◌, ◌<◌, ◌≤◌, Bool, true, false, not, ◌&&◌, cond, List, [], ◌∷◌, ◌++◌, length, map, take, drop, get_or, filter, All, Option, Some, None, is_none, Ok, Err, bytes_eq, arith, add-zero}
-use Rattle.std.specs.Prelude.{Result, find, slice_get, unwrap_or, ⊤}
+use Rattle.std.proofs.Common.{◌≡◌, ◌≢◌, ◌∙◌, sym, ap, refl, subst, ℕ, suc, ◌+◌, ◌<◌, Bool, true, false, not, cond, List, [], ◌∷◌, ◌++◌, length, map, take, drop, get_or, filter, All, Option, Some, None, is_none, Ok, Err, bytes_eq, arith, add-zero}
+use Rattle.std.specs.Prelude.{Result, find, unwrap_or}
 use Rattle.std.proofs.Math.Seq.{take-length}
 use Rattle.std.specs.List.{list_all, position_from}
 use Rattle.std.proofs.lemmas.Bool.{and_parts}
@@ -28,7 +28,7 @@ use Rattle.insn_encode.specs.declared.fault.EncodeFault.TheVariants as fault
 use Rattle.insn_encode.specs.Held.{pair_by, refusal_by, answer_by, leaf_node_at}
 use Rattle.list_words.specs.declared.given.Given.{Given}
 use Rattle.list_words.specs.Names.{is_other}
-use Rattle.list_words.specs.Faults.{IsWithin, IsRefusalAt}
+use Rattle.list_words.specs.Faults.{IsWithin}
 use Rattle.list_words.specs.Givens.{IsGiven}
 use Rattle.list_words.specs.Encoded.{Encodes, IsRefusedAt, or_next}
 

@@ -10,3 +10,4 @@ pub mod NameLaws
 pub mod GivenLaws
 pub mod EncodeLaws
 pub mod ReadLaws
+pub mod ReasonLaws

@@ -1,5 +1,5 @@
 -- What a line says by what is given in it.
-use Rattle.std.proofs.Common.{◌≡◌, ◌∙◌, ap, refl, ℕ, List, [], Ok, Err}
+use Rattle.std.proofs.Common.{◌≡◌, ◌∙◌, ap, refl, ℕ, List, [], Ok}
 use Rattle.std.specs.Prelude.{Result, slice_index_or, unwrap_or}
 use Rattle.spec_decode.specs.Machine.{Machine}
 use Rattle.spec_encoding.specs.Refusal.{Refusal}

@@ -1,5 +1,5 @@
 -- The answers of the encoder.
-use Rattle.std.specs.Prelude.{◌≡◌, ℕ, List, Result, Ok, Err, length}
+use Rattle.std.specs.Prelude.{◌≡◌, ℕ, List, Result, Ok, Err}
 use Rattle.spec_encoding.specs.Refusal.{Refusal}
 use Rattle.insn_tree.specs.Trees.{TreeParts}
 use Rattle.insn_encode.specs.declared.fault.EncodeFault.{EncodeFault}

@@ -6,3 +6,4 @@ pub mod Names
 pub mod Faults
 pub mod Givens
 pub mod Encoded
+pub mod Told
