@@ -88,7 +88,7 @@ impl Verb {
     /// What the command asks for with these settings; `None` exactly where a key that it needs is missing.
     pub(crate) fn request<'a>(self, settings: &Settings<'a>) -> Option<Request<'a>>
         ensures asked { option_map asked_of result ≡ (command_of self).asks.value settings.now }
-    ensures limited { IfSome result IsLimited }
+        ensures limited { IfSome result IsLimited }
     {
         match self {
             Verb::List => {

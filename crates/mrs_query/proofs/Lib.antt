@@ -4,3 +4,4 @@ pub mod Performing
 pub mod Verdicts
 pub mod FeatureLaws
 pub mod OpeningLaws
+pub mod AssembledLaws

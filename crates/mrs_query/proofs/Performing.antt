@@ -2,7 +2,7 @@
 use Rattle.std.proofs.Common.{◌≡◌, ◌≤◌, ℕ, List, [], Ok, Err, inl, inr, sym, ap, ◌∙◌, subst, arith}
 use Rattle.spec_command.specs.Commands.{Request}
 use Rattle.spec_command.specs.Request.{request}
-use Rattle.spec_run.specs.End.{End, Done, Ragged, Usage, Document as Refused, Question, ReadFault, WriteFault, Limit, NoMemory, Insns, Log, Input, IsUsage}
+use Rattle.spec_run.specs.End.{End, Done, Ragged, Usage, Document as Refused, Question, ReadFault, WriteFault, Limit, NoMemory, Insns, Log, Input, IsEarly, IsUsage}
 use Rattle.spec_run.specs.Commands.{Needs, opened, work_of}
 use Rattle.spec_run.specs.Ran.{Ran}
 use Rattle.spec_run.specs.Scene.{Scene}
@@ -14,6 +14,7 @@ use Rattle.mrs_query.specs.Runs.{told_as}
 use Rattle.mrs_query.specs.declared.status.Status.{Status}
 use Rattle.mrs_query.specs.declared.status.Status.TheVariants as status
 use Rattle.mrs_query.specs.declared.ended.Ended.{Ended}
+use Rattle.mrs_query.specs.declared.status.QuestionFault.TheVariants as question
 use Rattle.mrs_query.specs.declared.opening_error.OpeningError.{OpeningError}
 use Rattle.mrs_query.specs.declared.opening_error.OpeningError.TheVariants as error
 use Rattle.mrs_query.specs.declared.status.Which.TheVariants as which
@@ -68,6 +69,19 @@ module _ (s : Scene) (asked : Request) where
   by_opening (error.TooLong which.Input) opens still = absurd opens.0.0
   by_opening (error.Refused which fault) opens still = record { cause = opens; untouched = still }
   by_opening error.NoMemory opens still = record { shelf = opens; reached = inl still }
+
+-- a status comes before the stream with any reason
+pub early_told : (status : Status) (reason : List ℕ) → IsEarly (end_of status []) → IsEarly (end_of status reason)
+early_told status.Done reason early = absurd early
+early_told (status.Ragged rest) reason early = absurd early
+early_told (status.Usage place) reason early = tt
+early_told (status.Document which fault) reason early = tt
+early_told (status.Question question.NoLeaf) reason early = tt
+early_told (status.Question (question.Line line fault)) reason early = absurd early
+early_told (status.ReadFault which) reason early = early
+early_told status.WriteFault reason early = absurd early
+early_told (status.Limit which) reason early = early
+early_told status.NoMemory reason early = absurd early
 
 module _ (words : List (List ℕ)) (s : Scene) (asked : Request) (says : request words ≡ Ok asked) where
   -- a status says this of words that ask for something

@@ -24,6 +24,7 @@ fault_of (fault.Log at) = run.Syntax at
 -- with the text of the reason where a line is refused
 abbrev pub question_of : QuestionFault → List ℕ → run.QuestionFault
 question_of question.NoLeaf reason = run.NoLeaf
+question_of (question.Line line fault) reason = run.Line line fault.at reason
 
 abbrev pub end_of : Status → List ℕ → run.End
 end_of status.Done reason = run.Done

@@ -8,3 +8,4 @@ pub mod Texts
 pub mod Wrote
 pub mod Verdict
 pub mod Runs
+pub mod Assembled

@@ -6,10 +6,12 @@ ghost use Rattle.mrs_query.specs.End.{end_of};
 ghost use Rattle.mrs_query.specs.Fulfilled.{Fulfils};
 ghost use Rattle.mrs_query.specs.Runs.{HasReason};
 
+mod asm;
 mod leaf;
 mod list;
 mod proof;
 
+use crate::commands::asm::assemble;
 use crate::commands::leaf::show_leaf;
 use crate::commands::list::show_words;
 use crate::commands::proof::check_log;
@@ -55,7 +57,11 @@ pub(crate) fn fulfil<V: Shelf, S: Source, K: Sink>(
             let status = show_words(alloc, &opened, bare, max, input, out);
             Ok(Ended::plainly(alloc, status))
         }
-        Request::Asm { release: _, max: _, on: _ } => Err(OpeningError::NoMemory),
+        Request::Asm { release, max, on } => {
+            let features = Features::on(alloc, on)?;
+            let opened = open_release(alloc, shelf, release, features)?;
+            Ok(assemble(alloc, &opened, max, input, out))
+        }
         Request::Leaf { release, label } => {
             let features = Features::none(alloc)?;
             let opened = open_release(alloc, shelf, release, features)?;

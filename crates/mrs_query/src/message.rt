@@ -139,6 +139,24 @@ fn write_two<E: Sink>(err: &mut E, first: &[u8], second: &[u8]) -> Result<(), Fa
     write_parts(err, &[first, second, b"\n".as_slice()])
 }
 
+/// Writes the text of a refused line: its number, the place of a byte in it, and the reason.
+fn write_line<E: Sink>(err: &mut E, line: u64, at: u32, reason: &[u8]) -> Result<(), Failed>
+    ensures { Wrote (E.writing err.old) (E.writing err.new) (message (run.Question (run.Line line at reason.now))) result }
+{
+    write_parts(
+        err,
+        &[
+            b"line ".as_slice(),
+            Buffer::new().format(line).as_bytes(),
+            b" ".as_slice(),
+            Buffer::new().format(at).as_bytes(),
+            b" ".as_slice(),
+            reason,
+            b"\n".as_slice(),
+        ],
+    )
+}
+
 /// Writes the text of an end that has one.
 fn write_message<E: Sink>(err: &mut E, ended: &Ended) -> Result<(), Failed>
     ensures text { Wrote (E.writing err.old) (E.writing err.new) (message (told_as ended.now)) result }
@@ -162,6 +180,9 @@ fn write_message<E: Sink>(err: &mut E, ended: &Ended) -> Result<(), Failed>
         Status::Question {
             fault: QuestionFault::NoLeaf,
         } => write_two(err, b"leaf", b""),
+        Status::Question {
+            fault: QuestionFault::Line { line, fault },
+        } => write_line(err, *line, fault.at, &ended.reason),
         Status::ReadFault { which } => write_two(err, b"read ", which_text(*which)),
         Status::WriteFault => write_two(err, b"write out", b""),
         Status::Limit { which } => write_two(err, b"limit ", which_text(*which)),

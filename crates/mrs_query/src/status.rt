@@ -3,6 +3,7 @@ ghost use Rattle.std.specs.Prelude.{◌≡◌, ℕ, List};
 ghost use Rattle.spec_run.specs.End.{exit_number};
 ghost use Rattle.mrs_query.specs.End.{end_of};
 
+use list_words::LineFault;
 use mrs_schema::SchemaFault;
 
 /// What a status names: the Instructions document, the log, or the stream.
@@ -29,6 +30,8 @@ pub enum DocFault {
 pub enum QuestionFault {
     /// No leaf has the label.
     NoLeaf,
+    /// The line of that number, counted from 1, is refused.
+    Line { line: u64, fault: LineFault },
 }
 
 /// How a run ends.

@@ -6,6 +6,7 @@ ghost use Rattle.spec_run.specs.Listing.{list_work};
 ghost use Rattle.spec_run.specs.Ran.{Ran};
 ghost use Rattle.list_stream.specs.Endings as listing;
 ghost use Rattle.mrs_query.specs.End.{end_of};
+ghost use Rattle.mrs_query.specs.Runs.{HasReason};
 
 use crate::opened::Opened;
 use crate::{Status, Which};
@@ -15,7 +16,8 @@ use std::alloc::Global;
 
 /// The status of a listing that ended.
 fn listed(ended: Ended) -> Status
-    ensures { end_of result [] ≡ listing.end_of ended }
+    ensures end { end_of result [] ≡ listing.end_of ended }
+    ensures plain { HasReason result [] }
 {
     match ended {
         Ended::Done => Status::Done,
@@ -41,8 +43,9 @@ pub(crate) fn show_words<S: Source, K: Sink>(
     out: &mut K,
 ) -> Status
     requires { max ≤ 2 ^ 40 }
-    ensures { Ran (S.reading input.old) (S.reading input.new) (K.writing out.old) (K.writing out.new)
+    ensures ran { Ran (S.reading input.old) (S.reading input.new) (K.writing out.old) (K.writing out.new)
         (Reads (list_work (form_by bare) opened.now max)) (end_of result []) }
+    ensures plain { HasReason result [] }
 {
     listed(list_stream(alloc, &opened.lister(bare), max, input, out))
 }
