@@ -1,2 +1,4 @@
+pub mod LineLaws
 pub mod Steps
+pub mod PieceLaws
 pub mod Streaming

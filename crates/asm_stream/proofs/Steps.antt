@@ -25,6 +25,16 @@ cut_ended : (line : List ℕ) → HasNoEnd line → cut (line ++ 10 ∷ []) ≡ 
 cut_ended line none =
     cut-append line (10 ∷ []) ∙ ap (λ c. with_more c ([] ∷ []) []) (cut_plain line none) ∙ ap (λ l. record { whole = l ∷ []; left = [] }) (append-nil line)
 
+-- there are no more lines than bytes
+counted_before : (is : Bool) (byte : ℕ) (whole : List (List ℕ)) (left : List ℕ) (n : ℕ) → length whole ≤ n → length (cond {A = Cut} is (record { whole = [] ∷ whole; left = left }) (before_whole byte whole left)).whole ≤ suc n
+counted_before true byte whole left n few = omega arith
+counted_before false byte [] left n few = omega arith
+counted_before false byte (line ∷ whole) left n few = omega arith
+
+pub whole_count : (xs : List ℕ) → length (cut xs).whole ≤ length xs
+whole_count [] = omega arith
+whole_count (byte ∷ xs) = counted_before _ byte (cut xs).whole (cut xs).left (length xs) (whole_count xs)
+
 -- ---- steps
 
 pub so_far_start : (m : Machine) → SoFar m [] 1 [] []

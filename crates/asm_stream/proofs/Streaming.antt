@@ -32,7 +32,7 @@ use Rattle.asm_stream.specs.declared.assembly.Assembly.{Assembly}
 use Rattle.asm_stream.specs.declared.stop.Stop.{Stop}
 use Rattle.asm_stream.specs.declared.stop.Stop.TheVariants as stop
 use Rattle.asm_stream.specs.declared.ended.Ended.TheVariants as ended
-use Rattle.asm_stream.proofs.Steps.{so_far_start, all_lines, no_more}
+use Rattle.asm_stream.proofs.Steps.{so_far_start, all_lines, no_more, whole_count}
 
 module _ (lister : Lister) where
   abbrev m : Machine
@@ -59,6 +59,21 @@ module _ (lister : Lister) where
     so_far = h.reaches p.done p.bytes p.so_far;
   }
 
+  -- the same where the piece is short
+  pub progress_short : (a a1 : Assembly) (r0 r r1 : Reading) (w0 w w1 : Writing) (size n : ℕ) (buffer : List ℕ) → Progress lister a r0 r w0 w size → PieceTaken lister a a1 (length buffer) r r1 w w1 buffer n → Progress lister a1 r0 r1 w0 w1 (size + n)
+  progress_short a a1 r0 r r1 w0 w w1 size n buffer p h = record {
+    done = p.done ++ take n buffer;
+    size_is = let fits : n ≤ length buffer = h.fits in simp (length-append, length-take) (omega (arith, p.size_is));
+    read = Consumes-trans r0.left r.left r1.left p.done _ p.read h.read;
+    bytes = p.bytes ++ h.words;
+    wrote = Appends-trans w0.taken w.taken w1.taken _ _ p.wrote h.wrote;
+    so_far = h.reaches p.done p.bytes p.so_far;
+  }
+
+  -- lines are no more than bytes
+  pub few_lines : (a : Assembly) (r0 r : Reading) (w0 w : Writing) (size : ℕ) → Progress lister a r0 r w0 w size → a.number ≤ size + 1
+  few_lines a r0 r w0 w size p = omega (arith, p.size_is, p.so_far.number_is, whole_count p.done)
+
   module _ (limit : ℕ) where
     abbrev work : Over
     work = asm_work m limit
@@ -79,10 +94,12 @@ module _ (lister : Lister) where
         let all : read ++ stream.0 ≡ xs ++ (extra ++ stream.0) = ap (λ b. b ++ stream.0) e ∙ append_assoc xs extra stream.0 in
         let front = front_out xs (before ++ words) (extra ++ stream.0) le fronts in
         let text : take (length before + n) (before ++ words) ≡ before ++ take n words = take-append-add before words n in
-        let size : length before + n + d ≤ length (before ++ words) = omega (arith, length-append before words) in
-        (read ++ stream.0, stream.1,
+        let size : length before + n + d ≤ length (before ++ words) = omega (arith, length-append before words) in (
+          read ++ stream.0,
+          stream.1,
           prefix_of work w0 w1 (before ++ words) front.0 _ (length before + n) d (ap (λ b. (asm_outcome m limit b).out) all ∙ front.1) size
-            (subst (Appends w0.taken w1.taken) (sym text) (Appends-trans w0.taken w.taken w1.taken before _ first next)))
+              (subst (Appends w0.taken w1.taken) (sym text) (Appends-trans w0.taken w.taken w1.taken before _ first next)),
+        )
 
     -- a line is refused behind words that went out
     refused_out : (r0 r1 : Reading) (w0 w1 : Writing) (xs bytes : List ℕ) (bad : BadLine) → Consumes r0.left r1.left xs → length xs ≤ limit → Refuses m xs bad bytes → Appends w0.taken w1.taken bytes → Listed work r0 w0 w1 (refusal lister bad)
@@ -132,8 +149,8 @@ module _ (lister : Lister) where
           meaning =
               let some : Appends w.taken w1.taken [] = Appends-kept w.taken w.taken w1.taken [] (Appends-nil w.taken) h.nothing in
               prefix_told work r0 w0 w1
-                (part_out r0 r1 w0 w w1 (p.done ++ h.bytes) p.done h.bytes p.bytes [] 0 0 refl (Consumes-trans r0.left r.left r1.left p.done h.bytes p.read h.read) (omega (arith, p.size_is))
-                  (inl (a.number, a.left.items, rw (append-nil p.bytes) p.so_far)) p.wrote (omega arith) some);
+              (part_out r0 r1 w0 w w1 (p.done ++ h.bytes) p.done h.bytes p.bytes [] 0 0 refl (Consumes-trans r0.left r.left r1.left p.done h.bytes p.read h.read) (omega (arith, p.size_is))
+              (inl (a.number, a.left.items, rw (append-nil p.bytes) p.so_far)) p.wrote (omega arith) some);
           reading = few_bytes h.bytes h.read (omega (arith, h.fits));
           input_count = omega (arith, cause.input_later);
           out_count = omega (arith, cause.out_later);
@@ -146,7 +163,7 @@ module _ (lister : Lister) where
           meaning = (
             Rose-earlier w0.faults w.faults w1.faults ol cause.cause,
             short_told work r0 w0 w1
-              (part_out r0 r1 w0 w w1 (p.done ++ h.bytes) (p.done ++ h.bytes) [] p.bytes h.words h.part.count 1 (sym (append-nil _)) (Consumes-trans r0.left r.left r1.left p.done h.bytes p.read h.read)
+                (part_out r0 r1 w0 w w1 (p.done ++ h.bytes) (p.done ++ h.bytes) [] p.bytes h.words h.part.count 1 (sym (append-nil _)) (Consumes-trans r0.left r.left r1.left p.done h.bytes p.read h.read)
                 (simp length-append (omega (arith, p.size_is, h.fits))) (h.fronts p.done p.bytes p.so_far) p.wrote (omega (arith, h.part.short)) h.part.front),
           );
           reading = few_bytes h.bytes h.read (omega (arith, h.fits));
@@ -159,7 +176,7 @@ module _ (lister : Lister) where
         is = (h.bad, h.is, refl);
         ran = record {
           meaning = refused_out r0 r1 w0 w1 (p.done ++ h.bytes) (p.bytes ++ h.words) h.bad (Consumes-trans r0.left r.left r1.left p.done h.bytes p.read h.read)
-            (simp length-append (omega (arith, p.size_is, h.fits))) (h.refuses p.done p.bytes p.so_far) (Appends-trans w0.taken w.taken w1.taken _ _ p.wrote h.wrote);
+              (simp length-append (omega (arith, p.size_is, h.fits))) (h.refuses p.done p.bytes p.so_far) (Appends-trans w0.taken w.taken w1.taken _ _ p.wrote h.wrote);
           reading = few_bytes h.bytes h.read (omega (arith, h.fits));
           input_count = omega (arith, cause.input_later);
           out_count = omega (arith, cause.out_later);
@@ -211,7 +228,7 @@ module _ (lister : Lister) where
         ran = record {
           meaning =
               told_end (refusal lister h.0) (p.bytes ++ []) (ap (λ x. assembly_outcome m.paths run.Done (followed None p.bytes x)) h.2)
-                (subst (Appends w0.taken w2.taken) (sym (append-nil p.bytes)) (Appends-kept w0.taken w1.taken w2.taken _ p.wrote h.3));
+              (Appends-trans w0.taken w1.taken w2.taken _ _ p.wrote h.3);
           reading = few;
           input_count = il;
           out_count = omega arith;
@@ -285,3 +302,11 @@ module _ (lister : Lister) where
         wrote = p.wrote;
         so_far = p.so_far;
       }
+
+    -- the same where the limit is reached by another number
+
+    pub more_past : (a : Assembly) (r0 r1 r2 : Reading) (w0 w1 : Writing) (size : ℕ) → size ≡ limit → Progress lister a r0 r1 w0 w1 size → r0.faults ≤ r1.faults → w0.faults ≤ w1.faults → Looked r1 r2 look.More → Assembles lister limit r0 r2 w0 w1 ended.Limit
+    more_past a r0 r1 r2 w0 w1 size e p il ol looked = more_behind a r0 r1 r2 w0 w1 (subst (Progress lister a r0 r1 w0 w1) e p) il ol looked
+
+    pub failed_past : (a : Assembly) (r0 r1 r2 : Reading) (w0 w1 : Writing) (size : ℕ) → size ≡ limit → Progress lister a r0 r1 w0 w1 size → r0.faults ≤ r1.faults → w0.faults ≤ w1.faults → Looked r1 r2 look.Failed → Assembles lister limit r0 r2 w0 w1 ended.ReadFault
+    failed_past a r0 r1 r2 w0 w1 size e p il ol looked = look_failed a r0 r1 r2 w0 w1 (subst (Progress lister a r0 r1 w0 w1) e p) il ol looked

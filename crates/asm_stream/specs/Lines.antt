@@ -2,8 +2,8 @@
 use Rattle.std.specs.Prelude.{◌≡◌, ℕ, List, [], ◌∷◌, ◌++◌, length, Some, None, Result, Ok, Err, ⊤}
 use Rattle.memchr.specs.Find.{Nowhere, Passes, is_byte}
 use Rattle.spec_lines.specs.Assembly.{BadLine, assembled_from}
+use Rattle.list_words.specs.Faults.{IsFault}
 use Rattle.list_words.specs.Listers.{machine}
-use Rattle.list_words.specs.Faults.{IsFaultOf}
 use Rattle.list_words.specs.declared.lister.Lister.{Lister}
 use Rattle.list_words.specs.declared.line_fault.LineFault.{LineFault}
 use Rattle.asm_stream.specs.declared.stop.Stop.{Stop}
@@ -15,8 +15,8 @@ HasNoEnd bytes = Nowhere (Passes (is_byte 10) bytes) 0 (length bytes)
 
 -- a line of that number is refused, for this fault
 pub record IsBad (lister : Lister) (number : ℕ) (fault : LineFault) (bad : BadLine) : Type 0 where
-  pub number : bad.number ≡ number
-  pub fault : IsFaultOf lister fault bad.fault
+  pub number_is : bad.number ≡ number
+  pub fault_is : IsFault lister.names.now lister.tree.now fault bad.fault
 
 -- the word of a line joins others, or the line is refused
 abbrev pub LineGives : Lister → ℕ → List ℕ → List ℕ → List ℕ → Result (Unit {0}) Stop → Type 0

@@ -25,13 +25,21 @@ IsOfLines (Err stop.Memory) = ⊤
 IsOfLines (Err stop.Input) = ⊥
 IsOfLines (Err stop.Output) = ⊥
 
+-- memory did not run out, so what lines came to is written
+abbrev pub IsWritten : Result (Unit {0}) Stop → Type 0
+IsWritten (Ok u) = ⊤
+IsWritten (Err (stop.Line number fault)) = ⊤
+IsWritten (Err stop.Memory) = ⊥
+IsWritten (Err stop.Input) = ⊥
+IsWritten (Err stop.Output) = ⊥
+
 module _ (out out_after : Writing) where
   -- the words that lines came to went out, and then the lines decide; where memory ran out, none did
   abbrev pub Wrote : List ℕ → Result (Unit {0}) Stop → Result (Unit {0}) Stop → Type 0
   Wrote words judged (Ok u) = (judged ≡ Ok u) × Appends out.taken out_after.taken words
   Wrote words judged (Err (stop.Line number fault)) = (judged ≡ Err (stop.Line number fault)) × Appends out.taken out_after.taken words
   Wrote words judged (Err stop.Memory) = Keeps out.taken out_after.taken
-  Wrote words judged (Err stop.Output) = Rose out.faults out_after.faults × AppendsPart out.taken out_after.taken words
+  Wrote words judged (Err stop.Output) = IsWritten judged × Rose out.faults out_after.faults × AppendsPart out.taken out_after.taken words
   Wrote words judged (Err stop.Input) = ⊥
 
 -- ---- one piece
@@ -89,14 +97,14 @@ module _ (lister : Lister) (a a1 : Assembly) (room : ℕ) (input input_after : R
   PieceEnds buffer (Err (stop.Line number fault)) = PieceRefused number fault
 
 -- the causes of the two faults: the count of the source or of the sink rose; neither has fallen
-abbrev pub StopCause : {A : Type 0} → Reading → Reading → Writing → Writing → Result A Stop → Type 0
+abbrev pub StopCause : Reading → Reading → Writing → Writing → Result ℕ Stop → Type 0
 StopCause input input_after out out_after (Ok n) = Unit {0}
 StopCause input input_after out out_after (Err stop.Input) = Rose input.faults input_after.faults
 StopCause input input_after out out_after (Err stop.Output) = Rose out.faults out_after.faults
 StopCause input input_after out out_after (Err stop.Memory) = Unit {0}
 StopCause input input_after out out_after (Err (stop.Line number fault)) = Unit {0}
 
-pub record PieceCause {A : Type 0} (input input_after : Reading) (out out_after : Writing) (result : Result A Stop) : Type 0 where
+pub record PieceCause (input input_after : Reading) (out out_after : Writing) (result : Result ℕ Stop) : Type 0 where
   pub input_later : input.faults ≤ input_after.faults
   pub out_later : out.faults ≤ out_after.faults
   pub cause : StopCause input input_after out out_after result
@@ -107,7 +115,7 @@ pub record PieceCause {A : Type 0} (input input_after : Reading) (out out_after 
 abbrev pub LastLine : Lister → Assembly → Writing → Writing → Result (Unit {0}) Stop → Type 0
 LastLine lister a out out_after (Ok u) = (words : List ℕ) × (assembled_from a.number (machine lister) (a.left.items ∷ []) ≡ record { bytes = words; refused = None }) × Appends out.taken out_after.taken words
 LastLine lister a out out_after (Err (stop.Line number fault)) =
-    (bad : BadLine) × IsBad lister number fault bad × (assembled_from a.number (machine lister) (a.left.items ∷ []) ≡ record { bytes = []; refused = Some bad }) × Keeps out.taken out_after.taken
+    (bad : BadLine) × IsBad lister number fault bad × (assembled_from a.number (machine lister) (a.left.items ∷ []) ≡ record { bytes = []; refused = Some bad }) × Appends out.taken out_after.taken []
 LastLine lister a out out_after (Err stop.Memory) = Keeps out.taken out_after.taken
 LastLine lister a out out_after (Err stop.Output) = Rose out.faults out_after.faults × AppendsPart out.taken out_after.taken (assembled_from a.number (machine lister) (a.left.items ∷ [])).bytes
 LastLine lister a out out_after (Err stop.Input) = ⊥

@@ -8,10 +8,7 @@ pub enum Ended {
     /// The stream was read to its end, and the word of each line went out.
     Done,
     /// The line of that number, counted from 1, is refused. The words of the lines before it went out.
-    Line {
-        number: u64,
-        fault: LineFault,
-    },
+    Line { number: u64, fault: LineFault },
     /// The source failed. The words of the lines of a prefix of what was read went out.
     ReadFault,
     /// The sink failed. A prefix of the words went out.

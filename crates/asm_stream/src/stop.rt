@@ -12,10 +12,7 @@ pub(crate) enum Stop {
     Input,
     Output,
     Memory,
-    Line {
-        number: u64,
-        fault: LineFault,
-    },
+    Line { number: u64, fault: LineFault },
 }
 
 impl From<AllocError> for Stop {

@@ -72,7 +72,7 @@ fn assemble_pieces<S: Source, K: Sink>(
     ensures { Assembles lister.now max (S.reading input.old) (S.reading input.new) (K.writing out.old) (K.writing out.new) result }
 {
     let mut assembly = Assembly::new(alloc);
-    for _ in 0..max / PIECE as u64 {
+    for _k in 0..max / PIECE as u64 {
         let n = match assemble_piece(&mut assembly, lister, input, out, buffer) {
             Ok(n) => n,
             Err(stop) => return stop.ended(),

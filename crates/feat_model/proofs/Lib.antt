@@ -9,3 +9,4 @@ pub mod Numbers
 pub mod Leaves
 pub mod Joining
 pub mod Made
+pub mod NamedLaws

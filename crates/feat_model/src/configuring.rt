@@ -4,6 +4,7 @@ ghost use Rattle.std.specs.Prelude.{◌≡◌, ◌↔◌, ℕ, Bool, List, ◌�
 ghost use Rattle.spec_features.specs.Theory.{states};
 ghost use Rattle.spec_features.specs.Fits.{Fits, unknown_pin};
 ghost use Rattle.feat_model.specs.Configures.{Configures, IsRefused};
+ghost use Rattle.feat_model.specs.Named.{IsNamed};
 
 use crate::faults::ModelFault;
 use crate::model::Model;
@@ -30,9 +31,8 @@ fn configuration(alloc: Global, model: &Model, all: &[bool]) -> Result<Config, N
     Config::new(alloc, names, of_parameters, of_atoms)
 }
 
-/// The first configuration in which every constraint holds and every pinned parameter has its state; or the clauses of
-/// the constraints and the pins, and a log that refutes them.
-pub fn configure(alloc: Global, model: &Model, pins: &[Pin]) -> Result<Outcome, ModelFault>
+/// What features and pins come to, by the numbers of names.
+fn configured(alloc: Global, model: &Model, pins: &[Pin]) -> Result<Outcome, ModelFault>
     requires { length pins.now ≤ 4096 }
     ensures outcome { IfOk result (λ o. Configures model.now pins.now o) }
     ensures exact { IfOk result (λ o. IsRefused o ↔ ((g : List Bool) → Fits nat_eq model.now pins.now g → ⊥)) }
@@ -47,4 +47,19 @@ pub fn configure(alloc: Global, model: &Model, pins: &[Pin]) -> Result<Outcome, 
         }
         Answer::Refuted(log) => Ok(Outcome::Refuted(cnf, log)),
     }
+}
+
+/// The first configuration in which every constraint holds and every pinned parameter has its state; or the clauses of
+/// the constraints and the pins, and a log that refutes them.
+pub fn configure(alloc: Global, model: &Model, pins: &[Pin]) -> Result<Outcome, ModelFault>
+    requires { length pins.now ≤ 4096 }
+    ensures outcome { IfOk result (λ o. Configures model.now pins.now o) }
+    ensures exact { IfOk result (λ o. IsRefused o ↔ ((g : List Bool) → Fits nat_eq model.now pins.now g → ⊥)) }
+    ensures known { OnOk result (unknown_pin nat_eq model.now.names pins.now ≡ None) }
+    ensures unknown { (k : ℕ) → result ≡ Err (ModelFault.UnknownFeature k) → unknown_pin nat_eq model.now.names pins.now ≡ Some k }
+
+    // With the texts of names it is the same, as long as each number has its own.
+    ensures named { IsNamed model.now pins.now result }
+{
+    configured(alloc, model, pins)
 }

@@ -91,11 +91,8 @@ fn formulas(
 
 impl Model {
     /// The boolean parameters of features, and their constraints as formulas over parameters and atoms.
-    ///
-    /// Connectives and other parts under connectives, counted as nested trees, are at most 4,194,304 in all.
     pub fn new(alloc: Global, f: &Features) -> Result<Model, NoMemory>
-        requires sound { AreFeatures f.now }
-        requires few { sum_by parts (features_of f.now).constraints ≤ 4194304 }
+        requires { AreFeatures f.now }
         ensures { IfOk result (λ m. m ≡ theory nat_eq (features_of f.now)) }
     {
         let classes = classes_of(alloc, &f.arena)?;

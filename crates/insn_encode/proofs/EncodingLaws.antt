@@ -21,11 +21,11 @@ use Rattle.spec_encoding.proofs.ByNumbers.{any-range-same, under, encoding-by_nu
 use Rattle.mrs_names.specs.declared.name_id.NameId.{NameId}
 use Rattle.mrs_arena.specs.declared.node_id.NodeId.{NodeId}
 use Rattle.mrs_arena.specs.Flat.{FlatNode}
-use Rattle.mrs_arena.specs.Placed.{text_of, path_to, paths_of, leaves_of}
+use Rattle.mrs_arena.specs.Placed.{text_of, path_to}
 use Rattle.mrs_arena.proofs.NameLaws.{text_eq}
 use Rattle.insn_tree.specs.declared.field_range.FieldRange.{FieldRange}
 use Rattle.insn_tree.specs.Trees as tree
-use Rattle.insn_tree.proofs.LayoutLaws.{path-binary}
+use Rattle.insn_tree.proofs.LayoutLaws.{any_path-binary}
 use Rattle.word_layout.specs.declared.layout.WordLayout.{WordLayout}
 use Rattle.word_layout.specs.Views.{layout_of, numbers_of}
 use Rattle.word_layout.proofs.NumberLaws.{numbers-to}
@@ -34,33 +34,17 @@ use Rattle.insn_encode.specs.declared.fault.EncodeFault.TheVariants as fault
 use Rattle.insn_encode.specs.Views.{field_of, pair_of, shown_of, refusal_of, answer_of, Places}
 use Rattle.ast_eval.specs.Choices.{Choices, configuration_of}
 use Rattle.insn_tree.specs.Verdicts.{AreHeldBy}
-use Rattle.insn_encode.specs.Held.{node_at, leaf_node_at, pair_by, refusal_by, answer_by}
+use Rattle.insn_encode.specs.Held.{node_at, pair_by, refusal_by, answer_by}
+use Rattle.insn_encode.specs.Paths.{IsPath}
 use Rattle.word_layout.specs.Masks.{fixed_by}
 use Rattle.insn_tree.specs.Views.{flat_field}
 use Rattle.insn_encode.specs.Shown.{is_flat_shown, shown_among, field_by}
 use Rattle.insn_encode.specs.Exclusion.{first_excluding}
 
--- ---- the path of a leaf
-
-pub slice_get_or : (xs : List ℕ) (k : ℕ) → k < length xs → slice_get xs k ≡ Some (get_or xs k 0)
-slice_get_or [] k below = absurd (omega arith)
-slice_get_or (x ∷ xs) zero below = refl
-slice_get_or (x ∷ xs) (suc k) below = slice_get_or xs k (omega arith)
-
-pub path-is : (names : List (List ℕ)) (nodes : List FlatNode) (l n : ℕ) → slice_get (leaves_of nodes) l ≡ Some n → slice_index_or (paths_of names nodes) l [] ≡ path_to names nodes n
-path-is names nodes l n at =
-    get_or-map (path_to names nodes) (leaves_of nodes) l n [] (slice_get_within (leaves_of nodes) l n at) ∙ ap (path_to names nodes) (get_or_from_slice_get (leaves_of nodes) l n n at)
-
 -- ---- rests
 
-pub rest-is : (b : WordLayout) (names : List (List ℕ)) (nodes : List FlatNode) (n : ℕ) → numbers_of b ≡ numbers (layout (path_to names nodes n)) → (w : ℕ) → rest_in (layout_of b) w ≡ rest_of (path_to names nodes n) w
-rest-is b names nodes n same w = rest_in-same (layout_of b) (layout (path_to names nodes n)) (numbers-to b (layout (path_to names nodes n)) (path-binary names nodes n) same) w
-
-pub leaf-rest : (names : List (List ℕ)) (nodes : List FlatNode) (l : ℕ) → l < length (leaves_of nodes) → (b : WordLayout) → numbers_of b ≡ numbers (layout (slice_index_or (paths_of names nodes) l [])) → (w : ℕ)
-    → rest_in (layout_of b) w ≡ rest_of (slice_index_or (paths_of names nodes) l []) w
-leaf-rest names nodes l within b same w =
-    let here = get_or-map (path_to names nodes) (leaves_of nodes) l 0 [] within in
-    rest-is b names nodes (get_or (leaves_of nodes) l 0) (same ∙ ap (λ p. numbers (layout p)) here) w ∙ ap (λ p. rest_of p w) (sym here)
+pub rest-is : (b : WordLayout) (path : List Own) → numbers_of b ≡ numbers (layout path) → (w : ℕ) → rest_in (layout_of b) w ≡ rest_of path w
+rest-is b path same w = rest_in-same (layout_of b) (layout path) (numbers-to b (layout path) (any_path-binary path) same) w
 
 -- ---- names as numbers and as texts
 
@@ -94,9 +78,7 @@ refusal-told names (fault.Excluded node) = refl
 
 -- ---- what is answered
 
-module _ (names : List (List ℕ)) (nodes : List FlatNode) (c : Choices) (hold : AreHeldBy names nodes c) (l n : ℕ) (at : slice_get (leaves_of nodes) l ≡ Some n)
-    (b : WordLayout) (same : numbers_of b ≡ numbers (layout (slice_index_or (paths_of names nodes) l [])))
-    (fs : List FieldRange) (visible : map (tree.field_of names) fs ≡ fields (slice_index_or (paths_of names nodes) l [])) (within : All (λ f. f.range.start + f.range.width ≤ 32) fs) (held : All (λ f. f.name.0 < length names) fs)
+module _ (names : List (List ℕ)) (nodes : List FlatNode) (n : ℕ) (c : Choices) (hold : AreHeldBy names nodes c) (fs : List FieldRange) (b : WordLayout) (is_path : IsPath nodes n fs b)
     (pairs : List (NameId × ℕ)) (held_pairs : All (λ pair. pair.0.0 < length names) pairs) (rest : ℕ) where
   abbrev g : Configuration
   g = configuration_of (text_of names) c
@@ -107,40 +89,25 @@ module _ (names : List (List ℕ)) (nodes : List FlatNode) (c : Choices) (hold :
   abbrev Held : ℕ → Type 0
   Held a = a < length names
 
-  abbrev Answer : Type 0
-  Answer = Result ℕ (Refusal (List ℕ))
-
-  abbrev answer : Answer
-  answer = with_node (leaf_node_at nodes l) (encoding (slice_index_or (paths_of names nodes) l []) g (map (pair_by names) pairs) rest)
-
-  here : slice_index_or (paths_of names nodes) l [] ≡ path
-  here = path-is names nodes l n at
+  abbrev answer : Result ℕ (Refusal (List ℕ))
+  answer = with_node (node_at nodes n) (encoding path g (map (pair_by names) pairs) rest)
 
   by-numbers : told (text_of names) (encoded (λ a b. a == b) (layout_of b) (first_excluding names nodes n g) (shown_of b fs) (map pair_of pairs) rest) ≡ with_node (node_at nodes n) (encoding path g (map (text_pair names) (map pair_of pairs)) rest)
   by-numbers =
       encoding-by_numbers (text_of names) Held (λ a b ha hb. text_eq names a b hold.distinct ha hb ∙ turned a b) path g (node_at nodes n) (layout_of b) (first_excluding names nodes n g) (map field_of fs) (map pair_of pairs) rest
-      (numbers-to b (layout path) (path-binary names nodes n) (same ∙ ap (λ p. numbers (layout p)) here))
+      (numbers-to b (layout path) (any_path-binary path) (is_path.numbers_are names hold.distinct hold.nodes_are))
       (λ w. refl)
-      (same-fields names fs ∙ ap (map named_field) (visible ∙ ap fields here))
-      (All-map (λ f. f.start + f.width ≤ 32) field_of fs within)
-      (All-map (λ f. Held f.name) field_of fs held)
+      (same-fields names fs ∙ ap (map named_field) (is_path.visible names hold.distinct hold.nodes_are))
+      (All-map (λ f. f.start + f.width ≤ 32) field_of fs is_path.within)
+      (All-map (λ f. Held f.name) field_of fs (is_path.held names hold.nodes_are))
       (All-map (λ p. Held p.0) pair_of pairs held_pairs)
-
-  node-is : slice_index_or (leaves_of nodes) l 0 ≡ n
-  node-is = get_or_from_slice_get (leaves_of nodes) l n 0 at
-
-  along : with_node (node_at nodes n) (encoding path g (map (text_pair names) (map pair_of pairs)) rest) ≡ answer
-  along =
-      ap (λ ps. with_node (node_at nodes n) (encoding path g ps rest)) (same-pairs names pairs)
-      ∙ ap (λ p. with_node (node_at nodes n) (encoding p g (map (pair_by names) pairs) rest)) (sym here)
-      ∙ ap (λ m. with_node (node_at nodes m) (encoding (slice_index_or (paths_of names nodes) l []) g (map (pair_by names) pairs) rest)) (sym node-is)
 
   placed-is : (placed : Result ℕ EncodeFault) → Places b fs pairs rest placed → told (text_of names) (unless_excluded (first_excluding names nodes n g) (answer_of placed)) ≡ answer
   placed-is placed is =
       ap (λ r. told (text_of names) (unless_excluded (first_excluding names nodes n g) r)) is
       ∙ ap (told (text_of names)) (sym (encoded-last (λ a b. a == b) (layout_of b) (first_excluding names nodes n g) (shown_of b fs) (map pair_of pairs) rest))
       ∙ by-numbers
-      ∙ along
+      ∙ ap (λ ps. with_node (node_at nodes n) (encoding path g ps rest)) (same-pairs names pairs)
 
   pub refused-is : (e : EncodeFault) → Places b fs pairs rest (Err e) → answer_by names (Err e) ≡ answer
   refused-is e is = ap Err (sym (refusal-told names e)) ∙ placed-is (Err e) is
@@ -171,16 +138,9 @@ filter-by names b path agree (f ∷ fs) within =
     pushed true = refl
     pushed false = refl
 
-pub shown-is : (names : List (List ℕ)) (nodes : List FlatNode) (l : ℕ) → l < length (leaves_of nodes) → (b : WordLayout) → numbers_of b ≡ numbers (layout (slice_index_or (paths_of names nodes) l []))
-    → (fs : List FieldRange) → map (tree.field_of names) fs ≡ fields (slice_index_or (paths_of names nodes) l []) → All (λ f. f.range.start + f.range.width ≤ 32) fs
-    → map (field_by names) (shown_among b fs) ≡ shown (slice_index_or (paths_of names nodes) l [])
-shown-is names nodes l below b same fs visible within =
-    let n = get_or (leaves_of nodes) l 0 in
-    let here = get_or-map (path_to names nodes) (leaves_of nodes) l 0 [] below in
-    let agree = (numbers-to b (layout (path_to names nodes n)) (path-binary names nodes n) (same ∙ ap (λ p. numbers (layout p)) here)).fixed in
-    filter-by names b (path_to names nodes n) agree fs within
-    ∙ ap (filter (is_shown (path_to names nodes n))) (visible ∙ ap fields here)
-    ∙ ap shown (sym here)
+pub shown-is : (names : List (List ℕ)) (path : List Own) (b : WordLayout) → numbers_of b ≡ numbers (layout path) → (fs : List FieldRange) → map (tree.field_of names) fs ≡ fields path → All (λ f. f.range.start + f.range.width ≤ 32) fs
+    → map (field_by names) (shown_among b fs) ≡ shown path
+shown-is names path b same fs visible within = filter-by names b path (numbers-to b (layout path) (any_path-binary path) same).fixed fs within ∙ ap (filter (is_shown path)) visible
 
 -- ---- the word and no other
 

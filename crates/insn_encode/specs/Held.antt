@@ -5,7 +5,7 @@ use Rattle.mrs_names.specs.declared.name_id.NameId.{NameId}
 use Rattle.mrs_arena.specs.Flat.{FlatNode}
 use Rattle.mrs_arena.specs.Paths.{ancestors}
 use Rattle.mrs_arena.specs.Nodes.{parents_of}
-use Rattle.mrs_arena.specs.Placed.{text_of, leaves_of}
+use Rattle.mrs_arena.specs.Placed.{text_of, leaves_of, aliases_of}
 use Rattle.insn_encode.specs.declared.fault.EncodeFault.{EncodeFault}
 use Rattle.insn_encode.specs.declared.fault.EncodeFault.TheVariants as fault
 
@@ -35,3 +35,7 @@ node_at nodes n k = slice_index_or (reverse (ancestors (parents_of nodes) n)) k 
 -- the same of those on the path to leaf l
 abbrev pub leaf_node_at : List FlatNode → ℕ → ℕ → ℕ
 leaf_node_at nodes l k = node_at nodes (slice_index_or (leaves_of nodes) l 0) k
+
+-- and of those on the path of alias a
+abbrev pub alias_node_at : List FlatNode → ℕ → ℕ → ℕ
+alias_node_at nodes a k = node_at nodes (slice_index_or (aliases_of nodes) a 0) k

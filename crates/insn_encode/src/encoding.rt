@@ -12,9 +12,8 @@ ghost use Rattle.insn_encode.specs.Shown.{field_by};
 ghost use Rattle.insn_tree.specs.Verdicts.{AreHeldBy};
 ghost use Rattle.insn_encode.specs.Held.{pair_by, answer_by, leaf_node_at};
 
-use crate::exclusion::first_excluding;
 use crate::fault::EncodeFault;
-use crate::placing::place;
+use crate::path_encoding::encode_along;
 use crate::shown_fields::Shown;
 use ast_eval::Config;
 use insn_tree::{LeafId, Tree};
@@ -60,9 +59,13 @@ pub fn encode(
     ensures word { (names : List (List ℕ)) → AreHeldBy names tree.now.nodes config.now → All (λ pair. pair.0.0 < length names) pairs.now → (w : ℕ)
         → (result ≡ Ok w) ↔ Encodes (path_at names tree.now l.0) (configuration_of (text_of names) config.now) (map (pair_by names) pairs.now) rest w }
 {
-    let word = place(tree.fields(l), &tree.layout(l), pairs, rest)?;
-    match first_excluding(tree.arena(), tree.leaf_node(l), word, config) {
-        Some(node) => Err(EncodeFault::Excluded { node }),
-        None => Ok(word),
-    }
+    encode_along(
+        tree.arena(),
+        tree.leaf_node(l),
+        tree.fields(l),
+        &tree.layout(l),
+        pairs,
+        rest,
+        config,
+    )
 }

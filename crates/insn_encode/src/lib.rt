@@ -1,17 +1,20 @@
 //! Words from values of fields, by the instruction tree.
 #![tactic(auto)]
 
+mod alias_encoding;
 mod encoding;
 mod exclusion;
 mod fault;
 mod fields;
 mod names;
+mod path_encoding;
 mod placing;
 mod shown_fields;
 #[cfg(test)]
 mod tests;
 mod values;
 
+pub use alias_encoding::{alias_rest_of, alias_shown, encode_alias};
 pub use encoding::{encode, rest_of, shown};
 pub use fault::EncodeFault;
 pub use shown_fields::Shown;

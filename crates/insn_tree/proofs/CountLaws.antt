@@ -6,7 +6,7 @@ use Rattle.std.proofs.lemmas.List.{length-map, length-take-le, map-append, take_
 use Rattle.std.proofs.lemmas.List.Sums.{count_by-le-length}
 use Rattle.mrs_names.specs.declared.name_id.NameId.{NameId}
 use Rattle.mrs_arena.proofs.NodeLaws.{count_by_push}
-use Rattle.insn_tree.specs.Leaves.{sakes}
+use Rattle.insn_tree.specs.Ends.{sakes}
 
 abbrev pub numbers : List NameId → List ℕ
 numbers names = map (λ name. name.0) names

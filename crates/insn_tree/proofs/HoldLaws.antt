@@ -17,7 +17,7 @@ use Rattle.ast_eval.specs.Fields.{items_to}
 use Rattle.ast_eval.proofs.PathLaws.{path_items_to, all_to}
 use Rattle.insn_tree.proofs.UpwardLaws.{formed_items}
 
-fit_items : (names : List (List ℕ)) (items : List FlatItem) → All IsItem items → All IsWithinWord (map (item_of names) items)
+pub fit_items : (names : List (List ℕ)) (items : List FlatItem) → All IsItem items → All IsWithinWord (map (item_of names) items)
 fit_items names items formed = All-map IsWithinWord (item_of names) items (λ k d h. (formed k d h).fits)
 
 -- the items along a path lie within the word

@@ -1,5 +1,5 @@
 -- Laws of labels.
-use Rattle.std.proofs.Common.{◌≡◌, ◌∙◌, sym, ap, refl, ℕ, ◌<◌, Bool, true, false, cond, List, [], ◌∷◌, ◌++◌, length, map, get_or, bytes_eq, Vec, Option, Some, None, is_some, arith}
+use Rattle.std.proofs.Common.{◌≡◌, ◌∙◌, sym, ap, refl, ℕ, ◌<◌, Bool, true, false, cond, List, [], ◌∷◌, ◌++◌, length, map, get_or, bytes_eq, Vec, Option, Some, None, is_some, All, arith}
 use Rattle.std.specs.Prelude.{find, nat_lt, decimal}
 use Rattle.std.specs.List.{range_with_len}
 use Rattle.std.specs.Map.{lookup}
@@ -7,17 +7,17 @@ use Rattle.std.specs.Option.{option_or}
 use Rattle.std.proofs.lemmas.Bool.Decides.{Decides-like, same_from_decides}
 use Rattle.std.proofs.lemmas.List.{length-map, get_or-map, map-append}
 use Rattle.std.proofs.lemmas.Slice.Eq.{bytes_eq-Decides}
-use Rattle.spec_instructions.specs.Paths.{path_name, namesakes, labelled, label, has_label, labelled_leaf}
+use Rattle.spec_instructions.specs.Tree.{Own}
+use Rattle.spec_instructions.specs.Paths.{path_name, namesakes, labelled, label, has_label, labelled_path}
 use Rattle.mrs_names.specs.Texts.{AreNames}
 use Rattle.mrs_arena.specs.Flat.{FlatNode}
 use Rattle.mrs_arena.specs.Formed.{AreNodes}
-use Rattle.mrs_arena.specs.Limits.{is_leaf}
-use Rattle.mrs_arena.specs.Placed.{text_of, path_to, paths_of, leaves_of, AreHeld}
-use Rattle.insn_tree.specs.Leaves.{name_at, leaf_names, is_shared}
+use Rattle.mrs_arena.specs.Placed.{text_of, path_to, AreHeld}
+use Rattle.insn_tree.specs.Ends.{name_at, end_names, is_shared}
 use Rattle.insn_tree.specs.Labels.{flat_label, label_at, has_flat_label, with_label, labels_of}
 use Rattle.insn_tree.specs.Trees.{number_of, label_number}
 use Rattle.insn_tree.proofs.RangeLaws.{find_same}
-use Rattle.insn_tree.proofs.LeafLaws.{kept_within, path_name-to, held_name, namesakes-sakes}
+use Rattle.insn_tree.proofs.LeafLaws.{path_name-to, held_name, namesakes-sakes}
 
 -- ---- the table
 
@@ -71,57 +71,58 @@ bytes_eq-turn xs ys =
     same_from_decides (bytes_eq xs ys) (bytes_eq ys xs) (bytes_eq-Decides xs ys)
     (Decides-like (bytes_eq ys xs) (λ e. sym e) (λ e. sym e) (bytes_eq-Decides ys xs))
 
--- ---- the labels of leaves
+-- ---- the labels of paths
 
 flat_label-is : (names : List (List ℕ)) (name : ℕ) (shared : Bool) (k : ℕ) → flat_label names name shared k ≡ cond shared (text_of names name ++ 35 ∷ decimal k) (text_of names name)
 flat_label-is names name true k = refl
 flat_label-is names name false k = refl
 
-module _ (names : List (List ℕ)) (nodes : List FlatNode) (are : AreNames names) (held : AreHeld names nodes) (formed : AreNodes nodes) where
-  path-at : (k : ℕ) → k < length (leaves_of nodes) → get_or (paths_of names nodes) k [] ≡ path_to names nodes (get_or (leaves_of nodes) k 0)
-  path-at k h = get_or-map (path_to names nodes) (leaves_of nodes) k 0 [] h
+module _ (names : List (List ℕ)) (nodes : List FlatNode) (ends : List ℕ) (are : AreNames names) (held : AreHeld names nodes) (formed : AreNodes nodes) (all : All (λ n. n < length nodes) ends) where
+  abbrev paths : List (List Own)
+  paths = map (path_to names nodes) ends
 
-  name-leaf : (k : ℕ) → k < length (leaves_of nodes) → path_name (get_or (paths_of names nodes) k []) ≡ text_of names (get_or (leaf_names nodes) k 0)
-  name-leaf k h =
-      ap path_name (path-at k h)
-      ∙ path_name-to names nodes formed (get_or (leaves_of nodes) k 0) (kept_within is_leaf nodes k 0 h)
-      ∙ ap (text_of names) (sym (get_or-map (name_at nodes) (leaves_of nodes) k 0 0 h))
+  abbrev ids : List ℕ
+  ids = end_names nodes ends
 
-  pub leaf_name-held : (k : ℕ) → k < length (leaves_of nodes) → get_or (leaf_names nodes) k 0 < length names
-  leaf_name-held k h =
-      let n = get_or (leaves_of nodes) k 0 in
-      omega (arith, get_or-map (name_at nodes) (leaves_of nodes) k 0 0 h, held_name names nodes held n (kept_within is_leaf nodes k 0 h))
+  name-end : (k : ℕ) → k < length ends → path_name (get_or paths k []) ≡ text_of names (get_or ids k 0)
+  name-end k h =
+      ap path_name (get_or-map (path_to names nodes) ends k 0 [] h)
+      ∙ path_name-to names nodes formed (get_or ends k 0) (all k 0 h)
+      ∙ ap (text_of names) (sym (get_or-map (name_at nodes) ends k 0 0 h))
 
-  -- a leaf's label, by the number of its name
-  pub label-leaf : (k : ℕ) → k < length (leaves_of nodes) → flat_label names (get_or (leaf_names nodes) k 0) (is_shared (leaf_names nodes) (get_or (leaf_names nodes) k 0)) k ≡ label (paths_of names nodes) k
-  label-leaf k h =
-      let id = get_or (leaf_names nodes) k 0 in
-      let sakes-same = namesakes-sakes names nodes are held formed id (leaf_name-held k h) in
-      flat_label-is names id (is_shared (leaf_names nodes) id) k
+  pub end_name-held : (k : ℕ) → k < length ends → get_or ids k 0 < length names
+  end_name-held k h =
+      let n = get_or ends k 0 in
+      omega (arith, get_or-map (name_at nodes) ends k 0 0 h, held_name names nodes held n (all k 0 h))
+
+  -- a path's label, by the number of its name
+  pub label-end : (k : ℕ) → k < length ends → flat_label names (get_or ids k 0) (is_shared ids (get_or ids k 0)) k ≡ label paths k
+  label-end k h =
+      let id = get_or ids k 0 in
+      let sakes-same = namesakes-sakes names nodes ends are held formed all id (end_name-held k h) in
+      flat_label-is names id (is_shared ids id) k
       ∙ ap (λ n. cond (nat_lt 1 n) (text_of names id ++ 35 ∷ decimal k) (text_of names id)) (sym sakes-same)
-      ∙ ap (λ t. labelled (namesakes t (paths_of names nodes)) t k) (sym (name-leaf k h))
+      ∙ ap (λ t. labelled (namesakes t paths) t k) (sym (name-end k h))
 
-  -- its number is printed where another leaf has its name
-  pub number-leaf : (k : ℕ) → k < length (leaves_of nodes) → cond (is_shared (leaf_names nodes) (get_or (leaf_names nodes) k 0)) (Some k) None ≡ label_number (paths_of names nodes) k
-  number-leaf k h =
-      let id = get_or (leaf_names nodes) k 0 in
+  -- its number is printed where another path has its name
+  pub number-end : (k : ℕ) → k < length ends → cond (is_shared ids (get_or ids k 0)) (Some k) None ≡ label_number paths k
+  number-end k h =
+      let id = get_or ids k 0 in
       let number : ℕ → Option ℕ = λ n. cond (nat_lt 1 n) (Some k) None in
-      ap number (sym (namesakes-sakes names nodes are held formed id (leaf_name-held k h)))
-      ∙ ap (λ t. number (namesakes t (paths_of names nodes))) (sym (name-leaf k h))
+      ap number (sym (namesakes-sakes names nodes ends are held formed all id (end_name-held k h)))
+      ∙ ap (λ t. number (namesakes t paths)) (sym (name-end k h))
 
-  label-same : (k : ℕ) → k < length (leaves_of nodes) → label_at names (leaf_names nodes) (map (is_shared (leaf_names nodes)) (leaf_names nodes)) k ≡ label (paths_of names nodes) k
+  label-same : (k : ℕ) → k < length ends → label_at names ids (map (is_shared ids) ids) k ≡ label paths k
   label-same k h =
-      let ids = leaf_names nodes in
-      let within : k < length ids = omega (arith, length-map (leaves_of nodes) (name_at nodes)) in
-      ap (λ b. flat_label names (get_or ids k 0) b k) (get_or-map (is_shared ids) ids k 0 false within) ∙ label-leaf k h
+      let within : k < length ids = omega (arith, h, length-map ends (name_at nodes)) in
+      ap (λ b. flat_label names (get_or ids k 0) b k) (get_or-map (is_shared ids) ids k 0 false within) ∙ label-end k h
 
-  -- the leaf with a label, by the numbers of names
-  pub labelled-leaf : (text : List ℕ) → find (has_flat_label names (leaf_names nodes) (map (is_shared (leaf_names nodes)) (leaf_names nodes)) text) (range_with_len 0 (length (leaf_names nodes))) ≡ labelled_leaf (paths_of names nodes) text
-  labelled-leaf text =
-      let ids = leaf_names nodes in
+  -- the path with a label, by the numbers of names
+  pub labelled-end : (text : List ℕ) → find (has_flat_label names ids (map (is_shared ids) ids) text) (range_with_len 0 (length ids)) ≡ labelled_path paths text
+  labelled-end text =
       let shared = map (is_shared ids) ids in
-      let count : length ids ≡ length (leaves_of nodes) = length-map (leaves_of nodes) (name_at nodes) in
-      let paths : length (paths_of names nodes) ≡ length (leaves_of nodes) = length-map (leaves_of nodes) (path_to names nodes) in
+      let count : length ids ≡ length ends = length-map ends (name_at nodes) in
+      let as_many : length paths ≡ length ends = length-map ends (path_to names nodes) in
       ap (λ n. find (has_flat_label names ids shared text) (range_with_len 0 n)) count
-      ∙ find_same (has_flat_label names ids shared text) (has_label (paths_of names nodes) text) (length (leaves_of nodes)) (λ k h. ap (λ l. bytes_eq l text) (label-same k h))
-      ∙ ap (λ n. find (has_label (paths_of names nodes) text) (range_with_len 0 n)) (sym paths)
+      ∙ find_same (has_flat_label names ids shared text) (has_label paths text) (length ends) (λ k h. ap (λ l. bytes_eq l text) (label-same k h))
+      ∙ ap (λ n. find (has_label paths text) (range_with_len 0 n)) (sym as_many)

@@ -8,6 +8,7 @@ use Rattle.std.proofs.lemmas.List.{reverse-append}
 use Rattle.std.proofs.lemmas.List.Elements.{All-nil, All-cons, All-head, All-tail, All-append}
 use Rattle.spec_bits.specs.Bits.{bit_of}
 use Rattle.spec_bits.specs.Item.{fixes, should_be}
+use Rattle.spec_instructions.specs.Tree.{Own}
 use Rattle.spec_instructions.specs.Paths.{path_items}
 use Rattle.spec_instructions.specs.Fields.{fields}
 use Rattle.spec_encoding.specs.Parts.{covers}
@@ -62,12 +63,15 @@ layout-binary nodes n = record {
   default = λ i. unwrapped-lt (should_be_at nodes n i) (λ v h. last_should_be-lt (path_items (path_to [] nodes n)) i v (sym (should_be-at [] nodes n i) ∙ h));
 }
 
--- the same of a path
-pub path-binary : (names : List (List ℕ)) (nodes : List FlatNode) (n : ℕ) → IsBinary (layout (path_to names nodes n))
-path-binary names nodes n = record {
-  fixed = λ i v h. first_fixed-lt (path_items (path_to names nodes n)) i v h;
-  default = λ i. unwrapped-lt (last_should_be (path_items (path_to names nodes n)) i) (λ v h. last_should_be-lt (path_items (path_to names nodes n)) i v h);
+-- the same of any path
+pub any_path-binary : (path : List Own) → IsBinary (layout path)
+any_path-binary path = record {
+  fixed = λ i v h. first_fixed-lt (path_items path) i v h;
+  default = λ i. unwrapped-lt (last_should_be (path_items path) i) (λ v h. last_should_be-lt (path_items path) i v h);
 }
+
+pub path-binary : (names : List (List ℕ)) (nodes : List FlatNode) (n : ℕ) → IsBinary (layout (path_to names nodes n))
+path-binary names nodes n = any_path-binary (path_to names nodes n)
 
 -- ---- fields
 

@@ -1,4 +1,4 @@
--- Laws of leaves.
+-- Laws of leaves, and of the names of paths.
 use Rattle.std.proofs.Common.{◌≡◌, ◌∙◌, sym, ap, refl, ℕ, zero, suc, ◌+◌, ◌<◌, ◌≤◌, Bool, true, false, cond, ◌==◌, List, [], ◌∷◌, ◌++◌, length, map, filter, reverse, get_or, slice_get, Option, Some, None, unwrap_or, option_map, IfSome, All, bytes_eq, arith, append-nil}
 use Rattle.std.specs.Prelude.{count_by}
 use Rattle.std.specs.List.{range_with_len}
@@ -21,7 +21,8 @@ use Rattle.mrs_arena.specs.Placed.{text_of, own_at, path_to, paths_of, has_kind,
 use Rattle.mrs_arena.proofs.NodeLaws.{length-parents_of, count_by-append}
 use Rattle.mrs_arena.proofs.PathLaws.{ancestors-step}
 use Rattle.mrs_arena.proofs.PreorderLaws.{IsPreorder-parent}
-use Rattle.insn_tree.specs.Leaves.{name_at, leaf_names, leaves_before, leaf_number, leaf_above, counted_above, sakes}
+use Rattle.insn_tree.specs.Ends.{name_at, end_names, sakes}
+use Rattle.insn_tree.specs.Leaves.{leaves_before, leaf_number, leaf_above, counted_above}
 use Rattle.insn_tree.proofs.RangeLaws.{range_below, keeps_more, keeps_yes}
 use Rattle.mrs_arena.proofs.NameLaws.{text_eq}
 
@@ -50,7 +51,7 @@ kept_yes is nodes n node at same = keeps_yes (has_kind is nodes) n (kind_at is n
 pub parent-at : (nodes : List FlatNode) (n : ℕ) (node : FlatNode) → slice_get nodes n ≡ Some node → get_or (parents_of nodes) n None ≡ node.parent
 parent-at nodes n node at = get_or-map (λ node. node.parent) nodes n node None (slice_get_within nodes n node at) ∙ ap (λ node. node.parent) (get_or_from_slice_get nodes n node node at)
 
--- ---- names of leaves
+-- ---- names of paths
 
 own_name : (names : List (List ℕ)) (nodes : List FlatNode) (n : ℕ) → n < length nodes → (own_at names nodes n).name ≡ text_of names (name_at nodes n)
 own_name names [] n h = absurd (omega arith)
@@ -62,7 +63,7 @@ path_name-last [] own = refl
 path_name-last (first ∷ []) own = refl
 path_name-last (first ∷ next ∷ rest) own = path_name-last (next ∷ rest) own
 
-path_up-from : (nodes : List FlatNode) → AreNodes nodes → (n : ℕ) → n < length nodes → ancestors (parents_of nodes) n ≡ n ∷ path_up (parents_of nodes) (get_or (parents_of nodes) n None)
+pub path_up-from : (nodes : List FlatNode) → AreNodes nodes → (n : ℕ) → n < length nodes → ancestors (parents_of nodes) n ≡ n ∷ path_up (parents_of nodes) (get_or (parents_of nodes) n None)
 path_up-from nodes formed n h =
     let within : n < length (parents_of nodes) = omega (arith, h, length-parents_of nodes) in
     ancestors-step (parents_of nodes) n within (λ p e. IsPreorder-parent (parents_of nodes) n p formed.preorder within e)
@@ -102,13 +103,13 @@ count_by-same p q P same (x ∷ xs) all =
     ∙ ap (λ n. cond (q x) 1 0 + n) (count_by-same p q P same xs (All-tail P x xs all))
     ∙ sym (count_by-cons q x xs)
 
--- the leaves of a name are those of its number
-pub namesakes-sakes : (names : List (List ℕ)) (nodes : List FlatNode) → AreNames names → AreHeld names nodes → AreNodes nodes
-    → (name : ℕ) → name < length names → namesakes (text_of names name) (paths_of names nodes) ≡ sakes (leaf_names nodes) name
-namesakes-sakes names nodes are held formed name ha =
-    count_by-map (λ path. bytes_eq (text_of names name) (path_name path)) (path_to names nodes) (leaves_of nodes)
-    ∙ count_by-same (λ n. bytes_eq (text_of names name) (path_name (path_to names nodes n))) (λ n. name_at nodes n == name) (λ n. n < length nodes) each (leaves_of nodes) (kept_within is_leaf nodes)
-    ∙ sym (count_by-map (λ other. other == name) (name_at nodes) (leaves_of nodes))
+-- the paths of a name are those of its number
+pub namesakes-sakes : (names : List (List ℕ)) (nodes : List FlatNode) (ends : List ℕ) → AreNames names → AreHeld names nodes → AreNodes nodes → All (λ n. n < length nodes) ends
+    → (name : ℕ) → name < length names → namesakes (text_of names name) (map (path_to names nodes) ends) ≡ sakes (end_names nodes ends) name
+namesakes-sakes names nodes ends are held formed within name ha =
+    count_by-map (λ path. bytes_eq (text_of names name) (path_name path)) (path_to names nodes) ends
+    ∙ count_by-same (λ n. bytes_eq (text_of names name) (path_name (path_to names nodes n))) (λ n. name_at nodes n == name) (λ n. n < length nodes) each ends within
+    ∙ sym (count_by-map (λ other. other == name) (name_at nodes) ends)
   where
     each : (n : ℕ) → n < length nodes → bytes_eq (text_of names name) (path_name (path_to names nodes n)) ≡ (name_at nodes n == name)
     each n h = ap (bytes_eq (text_of names name)) (path_name-to names nodes formed n h) ∙ text_eq names name (name_at nodes n) are ha (held_name names nodes held n h)

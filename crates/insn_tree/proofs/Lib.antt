@@ -9,6 +9,10 @@ mod CountLaws
 mod LabelLaws
 mod PartLaws
 mod KeptLaws
+mod LeafKeptLaws
+mod AliasLaws
+mod ChainLaws
+mod AliasKeptLaws
 pub mod GrownTrees
 pub mod ConditionLaws
 pub mod TruthLaws

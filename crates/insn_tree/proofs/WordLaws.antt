@@ -24,7 +24,7 @@ use Rattle.insn_tree.proofs.UpwardLaws.{gathered-onto}
 
 -- ---- a path
 
-joined-onto : (names : List (List ℕ)) (items : List FlatItem) → joined_items (map (item_of names) items) ≡ onto join_item items (Some (replicate 32 Either))
+pub joined-onto : (names : List (List ℕ)) (items : List FlatItem) → joined_items (map (item_of names) items) ≡ onto join_item items (Some (replicate 32 Either))
 joined-onto names [] = refl
 joined-onto names (it ∷ items) = ap (option_and_then (joined (word_digits (with_text None it)))) (joined-onto names items)
 

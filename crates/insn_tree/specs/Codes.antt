@@ -9,8 +9,8 @@ use Rattle.insn_tree.specs.Trees.{TreeParts}
 
 abbrev pub tree_code : Coded TreeParts
 tree_code =
-    code_by (List FlatNode × (List (ExprOf ℕ) × List (List ℕ × ℕ)))
-    (coded× (coded_list flat_node_code) (coded× (coded_list (expr_code coded_ℕ)) (coded_list (coded× (coded_list coded_ℕ) coded_ℕ))))
-    (λ t. (t.nodes, (t.exprs, t.labels)))
-    (λ p. record { nodes = p.0; exprs = p.1.0; labels = p.1.1 })
+    code_by (List FlatNode × (List (ExprOf ℕ) × (List (List ℕ × ℕ) × List (List ℕ × ℕ))))
+    (coded× (coded_list flat_node_code) (coded× (coded_list (expr_code coded_ℕ)) (coded× (coded_list (coded× (coded_list coded_ℕ) coded_ℕ)) (coded_list (coded× (coded_list coded_ℕ) coded_ℕ)))))
+    (λ t. (t.nodes, (t.exprs, (t.labels, t.alias_labels))))
+    (λ p. record { nodes = p.0; exprs = p.1.0; labels = p.1.1.0; alias_labels = p.1.1.1 })
     (λ _. refl)

@@ -1,14 +1,14 @@
 -- Conditions along the paths of an arena.
-use Rattle.std.specs.Prelude.{ℕ, Bool, false, List, [], Option, Some, None, is_some, option_map, unwrap_or, slice_get}
+use Rattle.std.specs.Prelude.{ℕ, Bool, false, List, [], is_some, option_map, unwrap_or, slice_get}
 use Rattle.std.specs.List.{list_any}
 use Rattle.spec_expressions.specs.Truth.{Truth}
 use Rattle.spec_expressions.specs.Scope.{Configuration}
-use Rattle.spec_instructions.specs.Tree.{Own}
 use Rattle.spec_decode.specs.Verdict.{conditions_from}
 use Rattle.mrs_arena.specs.Flat.{FlatNode}
 use Rattle.mrs_arena.specs.Paths.{ancestors}
 use Rattle.mrs_arena.specs.Nodes.{parents_of}
 use Rattle.mrs_arena.specs.Placed.{path_to}
+pub use Rattle.mrs_arena.specs.AliasPaths.{path_above}
 
 -- node n has a condition, and so has a node on the path up from it
 abbrev pub has_condition : List FlatNode → ℕ → Bool
@@ -16,11 +16,6 @@ has_condition nodes n = unwrap_or (option_map (λ node. is_some node.condition) 
 
 abbrev pub is_conditioned : List FlatNode → ℕ → Bool
 is_conditioned nodes n = list_any (has_condition nodes) (ancestors (parents_of nodes) n)
-
--- the nodes down to one that may be there
-abbrev pub path_above : List (List ℕ) → List FlatNode → Option ℕ → List Own
-path_above names nodes None = []
-path_above names nodes (Some n) = path_to names nodes n
 
 -- the conditions of the nodes from the root down to node n, together
 abbrev pub conditions_at : List (List ℕ) → List FlatNode → Configuration → ℕ → ℕ → Truth

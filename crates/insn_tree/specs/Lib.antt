@@ -4,7 +4,10 @@ pub mod Visible
 pub mod Conditions
 pub mod Views
 pub mod Parts
+pub mod Ends
 pub mod Leaves
+pub mod Aliases
+pub mod Chains
 pub mod Labels
 pub mod Trees
 pub mod Codes

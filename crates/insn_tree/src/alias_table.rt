@@ -1,52 +1,58 @@
-//! The aliases, and the leaves above them.
+//! What is kept of each alias.
 
-ghost use Rattle.std.specs.Prelude.{◌≡◌, ◌<◌, IfOk, IfSome, length, map, option_map};
-ghost use Rattle.std.specs.List.{range_with_len};
-ghost use Rattle.mrs_arena.specs.Placed.{aliases_of};
-ghost use Rattle.insn_tree.specs.Leaves.{leaves_before, leaf_above, counted_above};
+ghost use Rattle.std.specs.Prelude.{◌≡◌, ℕ, ◌+◌, List, IfOk, length, map};
+ghost use Rattle.spec_instructions.specs.Aliases.{labelled_alias};
+ghost use Rattle.mrs_arena.specs.Formed.{AreNodes};
+ghost use Rattle.mrs_arena.specs.Placed.{leaves_of, aliases_of, AreHeld};
+ghost use Rattle.insn_tree.specs.Aliases.{aliases_by};
+ghost use Rattle.insn_tree.specs.Chains.{alias_leaves};
+ghost use Rattle.insn_tree.specs.Trees.{number_of};
+ghost use Rattle.insn_tree.specs.Kept.{AreAliases};
 
+use crate::alias_chains::{AliasChains, chain_aliases};
+use crate::alias_nodes::AliasNodes;
+use crate::alias_word::own_patterns;
 use crate::leaf_id::LeafId;
 use crate::memory::NoMemory;
-use mrs_arena::{Arena, NodeId};
+use crate::path_table::{PathTable, describe_paths};
+use bit_pattern::Pattern;
+use mrs_arena::Arena;
+use mrs_names::Names;
 use std::alloc::Global;
 
-/// The nodes that are aliases, in order, and the leaf above each of them.
+/// For each alias its path, its leaf, and what its own items fix; and the aliases of each leaf, one after another.
 #[derive(Drop)]
 pub(crate) struct AliasTable {
-    pub nodes: Vec<NodeId>,
+    pub paths: PathTable,
     pub leaves: Vec<LeafId>,
+    pub own: Vec<Option<Pattern>>,
+    pub chains: AliasChains,
 }
 
-/// How many leaves come before a node's parent.
-fn leaf_of(before: &[u32], parent: Option<NodeId>) -> LeafId
-    requires { IfSome parent (λ p. p.0 < length before.now) }
-    ensures { result.0 ≡ counted_above before.now (option_map (λ p. p.0) parent) }
-{
-    match parent {
-        Some(parent) => LeafId(before[parent.0 as usize]),
-        None => LeafId(0),
-    }
-}
-
-/// Finds the aliases of an arena. `before` says how many leaves come before each node.
-pub(crate) fn find_aliases(
+/// What is kept of these aliases. `count` is that of the leaves.
+pub(crate) fn describe_aliases(
     alloc: Global,
     arena: &Arena,
-    before: &[u32],
+    names: &Names,
+    aliases: AliasNodes,
+    count: usize,
 ) -> Result<AliasTable, NoMemory>
-    requires { before.now ≡ map (leaves_before arena.now.nodes) (range_with_len 0 (length arena.now.nodes)) }
-    ensures nodes { IfOk result (λ a. map (λ n. n.0) a.nodes.items ≡ aliases_of arena.now.nodes) }
-    ensures leaves { IfOk result (λ a. map (λ l. l.0) a.leaves.items ≡ map (leaf_above arena.now.nodes) (aliases_of arena.now.nodes)) }
+    requires nodes { map (λ n. n.0) aliases.nodes.items ≡ aliases_of arena.now.nodes }
+    requires leaves { map (λ l. l.0) aliases.leaves.items ≡ alias_leaves arena.now.nodes }
+    requires count { count ≡ length (leaves_of arena.now.nodes) }
+    requires formed { AreNodes arena.now.nodes }
+    requires held { AreHeld names.now arena.now.nodes }
+    ensures aliases { IfOk result (AreAliases arena.now.nodes) }
+    ensures labels { IfOk result (λ t. (text : List ℕ) → number_of text t.paths.labels ≡ labelled_alias (aliases_by names.now arena.now.nodes) text) }
 {
-    let mut nodes = Vec::new(alloc);
-    let mut leaves = Vec::new(alloc);
-    for n in 0..arena.node_count() {
-        let node = arena.node(NodeId(n));
-        if !node.kind().is_alias() {
-            continue;
-        }
-        nodes.push(NodeId(n))?;
-        leaves.push(leaf_of(before, node.parent()))?;
-    }
-    Ok(AliasTable { nodes, leaves })
+    let AliasNodes { nodes, leaves } = aliases;
+    let own = own_patterns(alloc, arena, &nodes)?;
+    let chains = chain_aliases(alloc, &leaves, count + 1)?;
+    let paths = describe_paths(alloc, arena, names, nodes)?;
+    Ok(AliasTable {
+        paths,
+        leaves,
+        own,
+        chains,
+    })
 }

@@ -1,18 +1,18 @@
-//! The fields of all leaves, in one array.
+//! The fields of all paths, in one array.
 
 use crate::field_range::FieldRange;
 use crate::memory::NoMemory;
 use std::alloc::Global;
 use std::marker::Model;
 
-/// Where a leaf's fields stand: from place `from` up to place `to`.
+/// Where a path's fields stand: from place `from` up to place `to`.
 #[derive(Clone, Copy)]
 struct Part {
     from: usize,
     to: usize,
 }
 
-/// A list of fields for each leaf. A clause sees these lists.
+/// A list of fields for each path. A clause sees these lists.
 #[derive(Drop)]
 pub(crate) struct FieldTable {
     fields: Vec<FieldRange>,
@@ -35,7 +35,7 @@ impl FieldTable {
     ghost use Rattle.std.specs.Prelude.{◌≡◌, ◌<◌, [], ◌∷◌, ◌++◌, OnOk, Some, length, map, slice_get};
     ghost use Rattle.insn_tree.specs.Views.{flat_field};
 
-    /// No leaves.
+    /// No paths.
     pub(crate) fn new(alloc: Global) -> FieldTable
         ensures { result ≡ [] }
     {
@@ -45,7 +45,7 @@ impl FieldTable {
         }
     }
 
-    /// Puts the fields of one more leaf.
+    /// Puts the fields of one more path.
     pub(crate) fn push(&mut self, fields: &[FieldRange]) -> Result<(), NoMemory>
         ensures { OnOk result (self.new ≡ self.old ++ map flat_field fields.now ∷ []) }
     {
@@ -56,12 +56,12 @@ impl FieldTable {
         Ok(())
     }
 
-    /// The fields of leaf `l`.
-    pub(crate) fn at(&self, l: usize) -> &[FieldRange]
-        requires { l < length self.now }
-        ensures { slice_get self.now l ≡ Some (map flat_field result.now) }
+    /// The fields of path `k`.
+    pub(crate) fn at(&self, k: usize) -> &[FieldRange]
+        requires { k < length self.now }
+        ensures { slice_get self.now k ≡ Some (map flat_field result.now) }
     {
-        let part = self.parts[l];
+        let part = self.parts[k];
         &self.fields[part.from..part.to]
     }
 }

@@ -11,6 +11,13 @@ ghost use Rattle.insn_tree.specs.Words.{join_item};
 use bit_pattern::Pattern;
 use mrs_arena::Item;
 
+/// A pattern that fixes no bit of the word.
+pub(crate) const FREE: Pattern = Pattern {
+    width: 32,
+    mask: 0,
+    value: 0,
+};
+
 /// The digits that an item fixes, at their place among the 32 of the word.
 fn word_pattern(it: &Item) -> Pattern
     ensures digits { digits_of result ≡ word_digits (with_text None (flat_item it.now)) }

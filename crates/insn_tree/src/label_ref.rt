@@ -1,4 +1,4 @@
-//! Labels of leaves.
+//! Labels of leaves and of aliases.
 
 ghost use Rattle.std.specs.Prelude.{◌≡◌, ◌++◌, length, take, OnOk, OnErr};
 ghost use Rattle.insn_tree.specs.Trees.{label_text};
@@ -6,7 +6,7 @@ ghost use Rattle.insn_tree.specs.Trees.{label_text};
 use itoa::Buffer;
 use std::alloc::AllocError;
 
-/// A leaf's label: its name alone, or, where another leaf has the name, the name, `#` and the leaf's number.
+/// The label of a leaf, or of an alias: its name alone, or, where another leaf, or another alias, has the name, the name, `#` and its number.
 #[derive(Clone, Copy, PartialEq, Eq, Debug)]
 pub struct LabelRef<'a> {
     pub name: &'a str,

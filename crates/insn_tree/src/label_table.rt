@@ -1,14 +1,14 @@
-//! The leaves by their labels.
+//! The paths by their labels.
 
 use crate::memory::NoMemory;
 use indexmap::IndexMap;
 use std::alloc::Global;
 use std::marker::Model;
 
-/// Labels, each with the number of the first leaf that has it. A clause sees the list of these pairs.
+/// Labels, each with the number of the first path that has it. A clause sees the list of these pairs.
 #[derive(Drop)]
 pub(crate) struct LabelTable {
-    leaves: IndexMap<Vec<u8>, u32>,
+    numbers: IndexMap<Vec<u8>, u32>,
 }
 
 impl Model for LabelTable {
@@ -17,7 +17,7 @@ impl Model for LabelTable {
 
     ghost Value = { List (List ℕ × ℕ) };
 
-    ghost view = { λ t. labels_of t.leaves.entries };
+    ghost view = { λ t. labels_of t.numbers.entries };
 }
 
 impl LabelTable {
@@ -30,25 +30,25 @@ impl LabelTable {
         ensures { result ≡ [] }
     {
         LabelTable {
-            leaves: IndexMap::new(alloc),
+            numbers: IndexMap::new(alloc),
         }
     }
 
-    /// Puts a leaf's label, unless an earlier leaf has it.
-    pub(crate) fn put(&mut self, label: Vec<u8>, leaf: u32) -> Result<(), NoMemory>
-        ensures { OnOk result (self.new ≡ with_label label.items leaf self.old) }
+    /// Puts a path's label, unless an earlier path has it.
+    pub(crate) fn put(&mut self, label: Vec<u8>, number: u32) -> Result<(), NoMemory>
+        ensures { OnOk result (self.new ≡ with_label label.items number self.old) }
     {
-        if self.leaves.contains_key(label.as_slice()) {
+        if self.numbers.contains_key(label.as_slice()) {
             return Ok(());
         }
-        self.leaves.insert(label, leaf)?;
+        self.numbers.insert(label, number)?;
         Ok(())
     }
 
-    /// The number of the leaf that has the label.
+    /// The number of the path that has the label.
     pub(crate) fn find(&self, text: &[u8]) -> Option<u32>
         ensures { result ≡ number_of text.now self.now }
     {
-        self.leaves.get(text).copied()
+        self.numbers.get(text).copied()
     }
 }

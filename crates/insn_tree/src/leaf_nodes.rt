@@ -1,14 +1,13 @@
 //! Finds the leaves among the nodes.
 
-ghost use Rattle.std.specs.Prelude.{◌≡◌, ◌<◌, All, IfOk, length, map};
+ghost use Rattle.std.specs.Prelude.{◌≡◌, IfOk, length, map};
 ghost use Rattle.std.specs.List.{range_with_len};
 ghost use Rattle.mrs_arena.specs.Formed.{AreNodes};
 ghost use Rattle.mrs_arena.specs.Placed.{leaves_of};
-ghost use Rattle.insn_tree.specs.Leaves.{leaves_before, name_at};
+ghost use Rattle.insn_tree.specs.Leaves.{leaves_before};
 
 use crate::memory::NoMemory;
 use mrs_arena::{Arena, NodeId};
-use mrs_names::NameId;
 use std::alloc::Global;
 
 /// The nodes that are leaves, in order, and how many leaves come before each node.
@@ -34,28 +33,4 @@ pub(crate) fn find_leaves(alloc: Global, arena: &Arena) -> Result<LeafNodes, NoM
         nodes.push(NodeId(n))?;
     }
     Ok(LeafNodes { nodes, before })
-}
-
-/// The name of a node.
-fn name_of(arena: &Arena, n: NodeId) -> NameId
-    requires { n.0 < length arena.now.nodes }
-    ensures { result.0 ≡ name_at arena.now.nodes n.0 }
-{
-    arena.node(n).name()
-}
-
-/// The names of leaves.
-pub(crate) fn leaf_names(
-    alloc: Global,
-    arena: &Arena,
-    leaves: &[NodeId],
-) -> Result<Vec<NameId>, NoMemory>
-    requires { All (λ n. n.0 < length arena.now.nodes) leaves.now }
-    ensures { IfOk result (λ names. map (λ name. name.0) names.items ≡ map (λ n. name_at arena.now.nodes n.0) leaves.now) }
-{
-    let mut names = Vec::with_capacity(alloc, leaves.len())?;
-    for leaf in leaves {
-        names.push(name_of(arena, *leaf))?;
-    }
-    Ok(names)
 }

@@ -4,18 +4,11 @@ ghost use Rattle.std.specs.Prelude.{◌≡◌, ◌<◌, All, IfOk, IfSome, lengt
 ghost use Rattle.bit_pattern.specs.Views.{digits_of};
 ghost use Rattle.insn_tree.specs.Words.{merged_at};
 
-use crate::item_word::joined_with_all;
+use crate::item_word::{FREE, joined_with_all};
 use crate::memory::NoMemory;
 use bit_pattern::Pattern;
 use mrs_arena::{Arena, NodeId};
 use std::alloc::Global;
-
-/// A pattern that fixes no bit of the word.
-const FREE: Pattern = Pattern {
-    width: 32,
-    mask: 0,
-    value: 0,
-};
 
 /// What the items along the path to a node fix; `None` where two of them clash.
 fn merged_pattern(arena: &Arena, n: NodeId) -> Option<Pattern>

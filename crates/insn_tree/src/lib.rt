@@ -1,7 +1,10 @@
-//! The leaves of the instruction tree: their labels, the bits that their paths fix, and the fields that are visible at them.
+//! The leaves and aliases of the instruction tree: their labels, the bits that their paths fix, and the fields that are visible at them.
 #![tactic(auto)]
 
+mod alias_chains;
+mod alias_nodes;
 mod alias_table;
+mod alias_word;
 mod field_range;
 mod field_table;
 mod grown;
@@ -12,15 +15,17 @@ mod label_ref;
 mod label_table;
 mod labels;
 mod leaf_conditions;
-mod leaf_fields;
 mod leaf_id;
-mod leaf_layout;
 mod leaf_nodes;
 mod leaf_table;
 mod leaf_word;
 mod memory;
 mod namesakes;
 mod path_conditions;
+mod path_fields;
+mod path_layout;
+mod path_names;
+mod path_table;
 mod shared;
 #[cfg(test)]
 mod tests;

@@ -1,7 +1,7 @@
-//! Finds the names that several leaves have.
+//! Finds the names that several paths have.
 
 ghost use Rattle.std.specs.Prelude.{◌≡◌, ◌<◌, ◌^◌, ℕ, All, IfOk, length, map, slice_index_or};
-ghost use Rattle.insn_tree.specs.Leaves.{sakes, is_shared};
+ghost use Rattle.insn_tree.specs.Ends.{sakes, is_shared};
 
 use crate::memory::NoMemory;
 use mrs_names::NameId;

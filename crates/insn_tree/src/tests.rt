@@ -30,7 +30,7 @@ const ROWS: [Row; 6] = [
     (Kind::Group, "one", Some(0), "op", 28, "001"),
     (Kind::Leaf, "DUP", Some(1), "Rd", 0, "xxxxx"),
     (Kind::Leaf, "CLASH", Some(1), "op", 28, "1xx"),
-    (Kind::Alias, "other", Some(3), "Rn", 5, "x"),
+    (Kind::Alias, "other", Some(3), "Rn", 5, "1"),
     (Kind::Leaf, "DUP", Some(0), "sf", 30, "1x"),
 ];
 
@@ -99,11 +99,36 @@ fn assert_leaf(
     assert_eq!(rt; tree.fields(leaf).len(), fields);
 }
 
+/// Asserts what is said of the one alias, which is that of leaf 1: it asks that bit 5 is 1.
 fn assert_alias(rt: &impl Abort, tree: &Tree) {
     assert_eq!(rt; tree.aliases(), 1);
+    assert!(rt; 0 < tree.aliases() && 1 < tree.leaves());
+    let alias = AliasId(0);
+    assert_eq!(rt; tree.alias_node(alias), NodeId(4));
+    assert_eq!(rt; tree.alias_leaf(alias), LeafId(1));
+    assert_eq!(rt; tree.first_alias(LeafId(1)), Some(alias));
+    assert_eq!(rt; tree.first_alias(LeafId(0)), None);
+    assert_eq!(rt; tree.next_alias(alias), None);
+    assert_eq!(rt; tree.alias_fields(alias).len(), 3);
+    assert!(rt; tree.alias_items_hold(alias, 0x20) && !tree.alias_items_hold(alias, 0));
+}
+
+/// Asserts the label of the one alias.
+fn assert_alias_label(
+    rt: &impl Abort,
+    alloc: Global,
+    tree: &Tree,
+    names: &Names,
+) -> Result<(), Fail>
+    requires { IsOf names.now tree.now }
+{
     assert!(rt; 0 < tree.aliases());
-    assert_eq!(rt; tree.alias_node(AliasId(0)), NodeId(4));
-    assert_eq!(rt; tree.alias_leaf(AliasId(0)), LeafId(1));
+    let mut label = Vec::new(alloc);
+    tree.alias_label(AliasId(0), names).push_onto(&mut label)?;
+    assert_eq!(rt; label.as_slice(), "other".as_bytes());
+    assert_eq!(rt; tree.find_alias(names, "other"), Some(AliasId(0)));
+    assert_eq!(rt; tree.find_alias(names, "DUP#0"), None);
+    Ok(())
 }
 
 /// Asserts the labels, once one more name is held than the tree was made with.
@@ -114,7 +139,7 @@ fn assert_labels(rt: &impl Abort, alloc: Global, tree: &Tree, names: &mut Names)
     assert_label(rt, alloc, tree, names, 0, "DUP#0")?;
     assert_label(rt, alloc, tree, names, 1, "CLASH")?;
     assert_label(rt, alloc, tree, names, 2, "DUP#2")?;
-    Ok(())
+    assert_alias_label(rt, alloc, tree, names)
 }
 
 /// Puts a name behind those that the tree was made with.

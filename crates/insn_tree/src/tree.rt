@@ -1,10 +1,10 @@
 //! What is asked of the tree of instructions, by the numbers of leaves and aliases.
 
-use crate::alias_table::{AliasTable, find_aliases};
+use crate::alias_nodes::find_aliases;
+use crate::alias_table::{AliasTable, describe_aliases};
 use crate::field_range::FieldRange;
 use crate::label_ref::LabelRef;
-use crate::label_table::LabelTable;
-use crate::labels::{find_labels, label_of};
+use crate::labels::label_of;
 use crate::leaf_id::{AliasId, LeafId};
 use crate::leaf_nodes::{LeafNodes, find_leaves};
 use crate::leaf_table::{LeafTable, describe_leaves};
@@ -20,15 +20,14 @@ use std::sync::ledger::Ledger;
 use step_count::Steps;
 use word_layout::WordLayout;
 
-/// The tree of an arena, with what is asked of its leaves found once. It never changes, and no call but `new` takes memory.
+/// The tree of an arena, with what is asked of its leaves and aliases found once. It never changes, and no call but `new` takes memory.
 ///
-/// A clause sees the nodes of the arena, and the labels of the leaves.
+/// A clause sees the nodes of the arena, and the labels of the leaves and of the aliases.
 #[derive(Drop)]
 pub struct Tree {
     arena: Arena,
     leaves: LeafTable,
     aliases: AliasTable,
-    labels: LabelTable,
 }
 
 impl Model for Tree {
@@ -40,7 +39,7 @@ impl Model for Tree {
 
     ghost coded = { tree_code };
 
-    ghost view = { λ t. record { nodes = t.arena.nodes; exprs = t.arena.exprs; labels = t.labels } };
+    ghost view = { λ t. record { nodes = t.arena.nodes; exprs = t.arena.exprs; labels = t.leaves.paths.labels; alias_labels = t.aliases.paths.labels } };
 
     ghost invariant = { λ t. AreLeaves t.arena.nodes t.leaves × AreAliases t.arena.nodes t.aliases };
 }
@@ -49,8 +48,11 @@ impl Tree {
     ghost use Rattle.std.specs.Prelude.{◌≡◌, ◌<◌, ◌≤◌, ◌+◌, ℕ, List, All, length, map, option_map, slice_get, IfOk, IfSome, Some};
     ghost use Rattle.bit_pattern.specs.Views.{digits_of};
     ghost use Rattle.mrs_names.specs.Texts.{AreNames};
-    ghost use Rattle.mrs_arena.specs.Placed.{leaves_of, aliases_of, AreHeld};
+    ghost use Rattle.mrs_arena.specs.Placed.{own_at, path_to, leaves_of, aliases_of, AreHeld};
+    ghost use Rattle.std.specs.List.{list_all};
+    ghost use Rattle.spec_bits.specs.Item.{item_holds};
     ghost use Rattle.spec_instructions.specs.Paths.{label, labelled_leaf, path_items};
+    ghost use Rattle.spec_instructions.specs.Aliases.{alias_paths, alias_label, labelled_alias};
     ghost use Rattle.spec_instructions.specs.Fields.{merged, fields, IsWithinWord};
     ghost use Rattle.spec_encoding.specs.Layout.{numbers};
     ghost use Rattle.spec_encoding.specs.PathLayout.{layout, free_unnamed, default_bits};
@@ -61,7 +63,8 @@ impl Tree {
     ghost use Rattle.insn_tree.specs.OwnTexts.{leaf_conditions, leaf_verdict};
     ghost use Rattle.insn_tree.specs.Verdicts.{AreConditionsOf, IsVerdictOf};
     ghost use Rattle.spec_decode.specs.Bucket.{AreWithinWord};
-    ghost use Rattle.insn_tree.specs.Trees.{IsOf, tree_paths, path_at, label_text, label_number, field_of, IsLeafAbove};
+    ghost use Rattle.insn_tree.specs.Aliases.{alias_from};
+    ghost use Rattle.insn_tree.specs.Trees.{IsOf, tree_paths, tree_aliases, path_at, alias_at, alias_path_at, label_text, label_number, field_of, IsLeafAbove};
 
     /// The tree of an arena, the texts of whose names are held by `names`.
     pub fn new(alloc: Global, arena: Arena, names: &Names) -> Result<Tree, NoMemory>
@@ -74,12 +77,12 @@ impl Tree {
         let aliases = find_aliases(alloc, &arena, &leaves.before)?;
         let LeafNodes { nodes, before: _ } = leaves;
         let leaves = describe_leaves(alloc, &arena, names, nodes)?;
-        let labels = find_labels(alloc, names, &leaves.names, &leaves.shared)?;
+        let count = leaves.paths.nodes.len();
+        let aliases = describe_aliases(alloc, &arena, names, aliases, count)?;
         Ok(Tree {
             arena,
             leaves,
             aliases,
-            labels,
         })
     }
 
@@ -96,32 +99,35 @@ impl Tree {
         ensures few { result ≤ node_limit }
         ensures within { (names : List (List ℕ)) → AreWithinWord (tree_paths names self.now) }
     {
-        self.leaves.nodes.len() as u32
+        self.leaves.paths.nodes.len() as u32
     }
 
     /// How many aliases there are.
     pub fn aliases(&self) -> u32
         ensures { result ≡ length (aliases_of self.now.nodes) }
     {
-        self.aliases.nodes.len() as u32
+        self.aliases.paths.nodes.len() as u32
     }
 
-    /// The node of a leaf.
+    /// The node of a leaf, at which its path ends.
     pub fn leaf_node(&self, l: LeafId) -> NodeId
         requires { l.0 < length (leaves_of self.now.nodes) }
         ensures node { slice_get (leaves_of self.now.nodes) l.0 ≡ Some result.0 }
         ensures within { result.0 < length self.now.nodes }
+        ensures path { (names : List (List ℕ)) → path_at names self.now l.0 ≡ path_to names self.now.nodes result.0 }
     {
-        self.leaves.nodes[l.0 as usize]
+        self.leaves.paths.nodes[l.0 as usize]
     }
 
-    /// The node of an alias.
+    /// The node of an alias, at which its path ends.
     pub fn alias_node(&self, a: AliasId) -> NodeId
         requires { a.0 < length (aliases_of self.now.nodes) }
         ensures node { slice_get (aliases_of self.now.nodes) a.0 ≡ Some result.0 }
         ensures within { result.0 < length self.now.nodes }
+        ensures path { (names : List (List ℕ)) → alias_path_at names self.now a.0 ≡ path_to names self.now.nodes result.0 }
+        ensures own { (names : List (List ℕ)) → (alias_at names self.now a.0).own ≡ own_at names self.now.nodes result.0 }
     {
-        self.aliases.nodes[a.0 as usize]
+        self.aliases.paths.nodes[a.0 as usize]
     }
 
     /// The leaf of an alias: the node above it, where that is a leaf.
@@ -142,8 +148,8 @@ impl Tree {
         let leaf = l.0 as usize;
         label_of(
             names,
-            self.leaves.names[leaf],
-            self.leaves.shared[leaf],
+            self.leaves.paths.names[leaf],
+            self.leaves.paths.shared[leaf],
             l.0,
         )
     }
@@ -163,7 +169,7 @@ impl Tree {
         ensures leaf { option_map (λ l. l.0) result ≡ labelled_leaf (tree_paths names.now self.now) text.now }
         ensures within { IfSome result (λ l. l.0 < length (leaves_of self.now.nodes)) }
     {
-        match self.labels.find(text) {
+        match self.leaves.paths.labels.find(text) {
             Some(leaf) => Some(LeafId(leaf)),
             None => None,
         }
@@ -186,7 +192,7 @@ impl Tree {
         ensures within { All (λ f. f.range.start + f.range.width ≤ 32) result.now }
         ensures held { (names : List (List ℕ)) → AreHeld names self.now.nodes → All (λ f. f.name.0 < length names) result.now }
     {
-        self.leaves.fields.at(l.0 as usize)
+        self.leaves.paths.fields.at(l.0 as usize)
     }
 
     /// The verdict of a leaf's path on the word `w`: `No` where an item on it does not hold or a condition on it is `No`,
@@ -248,7 +254,7 @@ impl Tree {
             → numbers_of result ≡ numbers (layout (path_at names self.now l.0)) }
         ensures within { (names : List (List ℕ)) → All IsWithinWord (path_items (path_at names self.now l.0)) }
     {
-        self.leaves.layouts[l.0 as usize]
+        self.leaves.paths.layouts[l.0 as usize]
     }
 
     /// The free unnamed bits of the path: those that no item fixes and no visible field has.
@@ -267,6 +273,94 @@ impl Tree {
             → result ≡ default_bits (path_at names self.now l.0) }
     {
         self.layout(l).default
+    }
+
+    /// The first alias of a leaf; `None` exactly where it has none.
+    pub fn first_alias(&self, l: LeafId) -> Option<AliasId>
+        requires { l.0 < length (leaves_of self.now.nodes) }
+        ensures first { (names : List (List ℕ)) → option_map (λ a. a.0) result ≡ alias_from (tree_aliases names self.now) l.0 0 }
+        ensures within { IfSome result (λ a. a.0 < length (aliases_of self.now.nodes)) }
+    {
+        self.aliases.chains.firsts[l.0 as usize]
+    }
+
+    /// The next alias of the same leaf; `None` exactly where there is none.
+    pub fn next_alias(&self, a: AliasId) -> Option<AliasId>
+        requires { a.0 < length (aliases_of self.now.nodes) }
+        ensures next { (names : List (List ℕ)) → option_map (λ b. b.0) result ≡ alias_from (tree_aliases names self.now) (alias_at names self.now a.0).leaf (a.0 + 1) }
+        ensures after { IfSome result (λ b. a.0 < b.0) }
+        ensures within { IfSome result (λ b. b.0 < length (aliases_of self.now.nodes)) }
+    {
+        self.aliases.chains.nexts[a.0 as usize]
+    }
+
+    /// Whether all items of the alias itself hold at the word `w`: one test of a mask.
+    pub fn alias_items_hold(&self, a: AliasId, w: u32) -> bool
+        requires { a.0 < length (aliases_of self.now.nodes) }
+        ensures { (names : List (List ℕ)) → result ≡ list_all (λ it. item_holds it w) (alias_at names self.now a.0).own.items }
+    {
+        match self.aliases.own[a.0 as usize] {
+            Some(pattern) => pattern.holds(u128::from(w)),
+            None => false,
+        }
+    }
+
+    /// The label of an alias, among aliases, with the alias's number. `names` are as for `label`.
+    pub fn alias_label<'a>(&'a self, a: AliasId, names: &'a Names) -> LabelRef<'a>
+        requires alias { a.0 < length (aliases_of self.now.nodes) }
+        requires names { IsOf names.now self.now }
+        ensures text { label_text result ≡ alias_label (tree_aliases names.now self.now) a.0 }
+        ensures number { result.number ≡ label_number (alias_paths (tree_aliases names.now self.now)) a.0 }
+    {
+        let alias = a.0 as usize;
+        label_of(
+            names,
+            self.aliases.paths.names[alias],
+            self.aliases.paths.shared[alias],
+            a.0,
+        )
+    }
+
+    /// The alias with that label; `None` exactly where no alias has it. `names` are as for `label`.
+    pub fn find_alias(&self, names: &Names, text: &str) -> Option<AliasId>
+        requires { IsOf names.now self.now }
+        ensures alias { option_map (λ a. a.0) result ≡ labelled_alias (tree_aliases names.now self.now) text.now }
+        ensures within { IfSome result (λ a. a.0 < length (aliases_of self.now.nodes)) }
+    {
+        self.find_alias_bytes(names, text.as_bytes())
+    }
+
+    /// The same by the bytes of the text, which may be any.
+    pub fn find_alias_bytes(&self, names: &Names, text: &[u8]) -> Option<AliasId>
+        requires { IsOf names.now self.now }
+        ensures alias { option_map (λ a. a.0) result ≡ labelled_alias (tree_aliases names.now self.now) text.now }
+        ensures within { IfSome result (λ a. a.0 < length (aliases_of self.now.nodes)) }
+    {
+        match self.aliases.paths.labels.find(text) {
+            Some(alias) => Some(AliasId(alias)),
+            None => None,
+        }
+    }
+
+    /// The fields that are visible at an alias, in path order from the root and item order, each name once at its deepest item.
+    pub fn alias_fields(&self, a: AliasId) -> &[FieldRange]
+        requires { a.0 < length (aliases_of self.now.nodes) }
+        ensures visible { (names : List (List ℕ)) → AreNames names → AreHeld names self.now.nodes
+            → map (field_of names) result.now ≡ fields (alias_path_at names self.now a.0) }
+        ensures within { All (λ f. f.range.start + f.range.width ≤ 32) result.now }
+        ensures held { (names : List (List ℕ)) → AreHeld names self.now.nodes → All (λ f. f.name.0 < length names) result.now }
+    {
+        self.aliases.paths.fields.at(a.0 as usize)
+    }
+
+    /// What the path of an alias says of the bits of words: as `layout` of a leaf.
+    pub fn alias_layout(&self, a: AliasId) -> WordLayout
+        requires { a.0 < length (aliases_of self.now.nodes) }
+        ensures numbers { (names : List (List ℕ)) → AreNames names → AreHeld names self.now.nodes
+            → numbers_of result ≡ numbers (layout (alias_path_at names self.now a.0)) }
+        ensures within { (names : List (List ℕ)) → All IsWithinWord (path_items (alias_path_at names self.now a.0)) }
+    {
+        self.aliases.paths.layouts[a.0 as usize]
     }
 
     /// What the conditions along a leaf's path say of the word `w`.

@@ -2,6 +2,7 @@
 use Rattle.std.proofs.Common.{◌≡◌, ◌∙◌, ap, sym, refl, subst, ℕ, zero, suc, ◌+◌, ◌-◌, ◌≤◌, ◌<◌, List, [], ◌∷◌, length, take, drop, Bool, true, false, ◌==◌, cond, arith, add-one, add-zero, length-drop}
 use Rattle.std.proofs.Math.ListN.{drop_of_length-le}
 use Rattle.std.proofs.lemmas.Bool.Decides.{nat_tests}
+use Rattle.spec_lines.proofs.TokenLaws.{are_from, apart, joins}
 use Rattle.spec_lines.specs.Token.{Token, joined_to, tokens_from}
 use Rattle.list_words.specs.Scans.{blanks, run}
 
@@ -30,39 +31,6 @@ no_blank_behind (first ∷ bytes) byte more h = go (first == 32) refl h (no_blan
     go false here e next = let same : first ≡ byte = cc in subst (λ b. (b == 32) ≡ false) same here
 
 -- ---- runs
-
--- tokens begin at a place or behind it
-abbrev AreFrom : ℕ → List Token → Type 0
-AreFrom at [] = Unit {0}
-AreFrom at (token ∷ tokens) = at ≤ token.at
-
-weaker : (at : ℕ) (tokens : List Token) → AreFrom (at + 1) tokens → AreFrom at tokens
-weaker at [] h = tt
-weaker at (token ∷ tokens) h = omega arith
-
-joined_from : (at byte : ℕ) (tokens : List Token) → AreFrom at (joined_to at byte tokens)
-joined_from at byte [] = omega arith
-joined_from at byte (token ∷ tokens) = go (token.at == at + 1)
-  where
-    go : (b : Bool) → AreFrom at (cond b (record { at = at; text = byte ∷ token.text } ∷ tokens) (record { at = at; text = byte ∷ [] } ∷ token ∷ tokens))
-    go true = omega arith
-    go false = omega arith
-
-are_from : (at : ℕ) (bytes : List ℕ) → AreFrom at (tokens_from at bytes)
-are_from at [] = tt
-are_from at (byte ∷ bytes) = go (byte == 32) (are_from (at + 1) bytes)
-  where
-    go : (b : Bool) → AreFrom (at + 1) (tokens_from (at + 1) bytes) → AreFrom at (cond b (tokens_from (at + 1) bytes) (joined_to at byte (tokens_from (at + 1) bytes)))
-    go true next = weaker at (tokens_from (at + 1) bytes) next
-    go false next = joined_from at byte (tokens_from (at + 1) bytes)
-
--- a byte before tokens that begin further behind is one of its own
-apart : (at byte : ℕ) (tokens : List Token) → AreFrom ((at + 1) + 1) tokens → joined_to at byte tokens ≡ record { at = at; text = byte ∷ [] } ∷ tokens
-apart at byte [] h = refl
-apart at byte (token ∷ tokens) h = let no : (token.at == at + 1) ≡ false = grind (arith, nat_tests) in rw no
-
-joins : (at byte : ℕ) (text : List ℕ) (tokens : List Token) → joined_to at byte (record { at = at + 1; text = text } ∷ tokens) ≡ record { at = at; text = byte ∷ text } ∷ tokens
-joins at byte text tokens = let yes : (at + 1 == at + 1) ≡ true = grind (arith, nat_tests) in rw yes
 
 -- the first of these bytes and those behind it up to a space are a token
 abbrev IsRun : ℕ → List ℕ → Type 0

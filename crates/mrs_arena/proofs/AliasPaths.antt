@@ -1,6 +1,6 @@
 -- The aliases among the nodes of a tree are the aliases of the tree.
-use Rattle.std.proofs.Common.{◌≡◌, ◌≢◌, ◌∙◌, sym, ap, refl, subst, ℕ, zero, suc, ◌+◌, ◌<◌, ◌≤◌, Bool, true, false, cond, List, [], ◌∷◌, ◌++◌, length, map, drop, Option, Some, None, option_map, unwrap_or, arith, inl, inr, append-nil, append_assoc, length-append, filter}
-use Rattle.std.specs.Prelude.{slice_get, slice_index_or}
+use Rattle.std.proofs.Common.{◌≡◌, ◌≢◌, ◌∙◌, sym, ap, refl, subst, ℕ, zero, suc, ◌+◌, Bool, true, false, cond, List, [], ◌∷◌, ◌++◌, length, map, drop, Option, Some, None, option_map, unwrap_or, arith, inl, inr, append-nil, append_assoc, length-append, filter}
+use Rattle.std.specs.Prelude.{slice_index_or}
 use Rattle.std.specs.List.{range_with_len}
 use Rattle.std.proofs.lemmas.List.{map-append, length-map}
 use Rattle.std.proofs.lemmas.List.Elements.{filter-append}
@@ -9,7 +9,7 @@ use Rattle.std.proofs.lemmas.Option.{get_or_from_slice_get, slice_get-map}
 use Rattle.spec_instructions.specs.Kind as kind
 use Rattle.spec_instructions.specs.Kind.{Kind, kinds_in}
 use Rattle.spec_instructions.specs.Tree.{Own, Node, node, Nodes, no_nodes, more}
-use Rattle.spec_instructions.specs.Paths.{paths_from, paths_among}
+use Rattle.spec_instructions.specs.Paths.{paths_from}
 use Rattle.spec_instructions.specs.Shape.{MayStand, node_kind, IsShaped, AreShaped, IsSetTree}
 use Rattle.spec_instructions.specs.Aliases.{AliasPath, with_alias, leaf_aliases, aliases_at, aliases_from, aliases_among, aliases_in}
 use Rattle.mrs_arena.specs.declared.kind.Kind as arena
@@ -17,7 +17,7 @@ use Rattle.mrs_arena.specs.declared.kind.Kind.TheVariants as variant
 use Rattle.mrs_arena.specs.Flat.{FlatNode}
 use Rattle.mrs_arena.specs.Nodes.{parents_of}
 use Rattle.mrs_arena.specs.Limits.{is_leaf, is_alias}
-use Rattle.mrs_arena.specs.Placed.{kind_of, Placed, placed_node, preorder, preorders, IsTree, no_own, own_of_flat, own_at, path_to, has_kind, aliases_of}
+use Rattle.mrs_arena.specs.Placed.{kind_of, Placed, placed_node, preorder, preorders, IsTree, no_own, own_at, path_to, has_kind, aliases_of}
 use Rattle.mrs_arena.specs.AliasPaths.{leaves_before, leaf_number, alias_by, aliases_by}
 use Rattle.mrs_arena.specs.AliasPaths as flat
 use Rattle.mrs_arena.proofs.TreePaths.{get_next, drop_next, drop_past, parents_in, own_in, path_in, path_above, IsBefore, before_later, path_in-step, is_leaf_kind, leaf_numbers, none_shaped, only_alias, paths_one, paths_placed, is_leaf-kind_of}

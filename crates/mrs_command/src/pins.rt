@@ -1,6 +1,7 @@
 //! Pins: words that settle features. Several words may have the key of a pin.
 ghost use Rattle.std.specs.Prelude.{◌≡◌};
 ghost use Rattle.spec_command.specs.Commands as spec;
+ghost use Rattle.spec_command.specs.Pins.{pin_keys};
 ghost use Rattle.spec_command.specs.Request.{is_pin};
 
 use crate::commands::is_among;
@@ -10,9 +11,9 @@ pub(crate) const MOST_PINS: usize = 4_096;
 
 /// Whether a key is that of a pin.
 pub(crate) fn is_pin_key(key: &str) -> bool
-    ensures { result ≡ spec.is_one_of spec.pin_keys key.now }
+    ensures { result ≡ spec.is_one_of pin_keys key.now }
 {
-    is_among(&["on"], key)
+    is_among(&["on", "off"], key)
 }
 
 /// Whether a word is a pin.

@@ -1,7 +1,7 @@
 -- Laws of aliases that are read.
-use Rattle.std.proofs.Common.{◌≡◌, ◌∙◌, sym, ap, refl, ℕ, ◌<◌, List, [], ◌∷◌, ◌++◌, length, length-append, Option, Some, None, Result, codes, arith}
+use Rattle.std.proofs.Common.{◌≡◌, ◌∙◌, ap, refl, ℕ, ◌<◌, List, [], ◌∷◌, ◌++◌, length, length-append, Option, Some, None, Result, codes, arith}
 use Rattle.spec_walk.specs.Spot.{Spot, named, optional}
-use Rattle.spec_walk.specs.Walk.{Walk, ◌>>>◌}
+use Rattle.spec_walk.specs.Walk.{◌>>>◌}
 use Rattle.spec_walk.proofs.EveryLaws.{Every, every-gives, every-next}
 use Rattle.spec_expressions.specs.Expression.{Expr}
 use Rattle.spec_expressions.specs.Reading.{expression}

@@ -1,19 +1,24 @@
 -- Parameters that are kept one after the other, each name once.
-use Rattle.std.proofs.Common.{◌≡◌, ◌≢◌, ◌∙◌, refl, sym, ap, subst, ℕ, ◌+◌, ◌<◌, ◌≤◌, ◌==◌, ◌||◌, List, [], ◌∷◌, ◌++◌, length, get_or, drop, map, true, false, append-nil, All, AllPairs, length-append, arith}
+use Rattle.std.proofs.Common.{◌≡◌, ◌≢◌, ◌∙◌, refl, sym, ap, subst, ℕ, ◌+◌, ◌<◌, ◌≤◌, ◌==◌, ◌||◌, List, [], ◌∷◌, ◌++◌, length, get_or, drop, map, true, false, append-nil, All, AllPairs, length-append, bytes_eq, arith}
 use Rattle.std.specs.Prelude.{sum_by}
-use Rattle.std.specs.List.{list_any}
+use Rattle.std.specs.List.{list_any, AllByRecursion}
 use Rattle.std.proofs.lemmas.List.{map_push, length-map, get_or-map, at_drop_more, at_drop_all}
 use Rattle.std.proofs.lemmas.List.Quantifiers.{all_pairs_push}
-use Rattle.std.proofs.lemmas.List.Elements.{All-nil}
-use Rattle.spec_names.specs.Distinct.{distinct_by}
-use Rattle.spec_features.specs.Features.{param_limit}
+use Rattle.std.proofs.lemmas.List.Elements.{All-nil, All-head, All-tail}
+use Rattle.spec_names.specs.Distinct.{distinct, distinct_by}
+use Rattle.spec_features.specs.Features as spec
+use Rattle.spec_features.proofs.Distinct.{distinct_alike, distinct_held}
+use Rattle.mrs_names.specs.Texts.{AreNames}
+use Rattle.mrs_arena.specs.Placed.{text_of}
+use Rattle.mrs_schema.proofs.TakenLaws.{same_texts}
+use Rattle.spec_features.specs.Features.{EachName, booleans_alone, with_names, param_limit}
 use Rattle.spec_features.specs.Theory.{parts}
 use Rattle.mrs_arena.specs.Expressions.{expr_at}
 use Rattle.mrs_names.specs.declared.name_id.NameId.{NameId}
 use Rattle.mrs_schema.specs.declared.features.Param.{Param}
 use Rattle.mrs_schema.specs.declared.features.ParamKind.TheVariants.{Boolean}
 use Rattle.mrs_schema.specs.declared.features.Features.{Features}
-use Rattle.mrs_schema.specs.FeatureViews.{param_of, features_of, booleans_alone, AreFeatures}
+use Rattle.mrs_schema.specs.FeatureViews.{param_of, features_of, AreFeatures, AreNamed}
 use Rattle.mrs_schema.proofs.OnceLaws.{is_kept, behind, behind-kept, behind-new, behind-none, differs_from_kept}
 
 abbrev pub names_of : List Param → List ℕ
@@ -81,16 +86,52 @@ kept_all {params} {i} {list} k past =
 -- so they are features, with no constraint
 pub record AreMade (f : Features) (list : List NameId) : Type 0 where
   pub names : features_of f ≡ booleans_alone (distinct_by ◌==◌ (numbers_of list))
+  pub named : AreNamed list f
   pub sound : AreFeatures f
 
+-- ---- the same with the texts of names
+
+held_numbers : (texts : List (List ℕ)) (list : List NameId) → All (λ name. name.0 < length texts) list → AllByRecursion (λ n. n < length texts) (numbers_of list)
+held_numbers texts [] held = tt
+held_numbers texts (name ∷ list) held = (All-head (λ (n : NameId). n.0 < length texts) name list held, held_numbers texts list (All-tail (λ (n : NameId). n.0 < length texts) name list held))
+
+texts_of_numbers : (texts : List (List ℕ)) (list : List NameId) → map (text_of texts) (numbers_of list) ≡ map (λ name. text_of texts name.0) list
+texts_of_numbers texts [] = refl
+texts_of_numbers texts (name ∷ list) = ap (λ ts. text_of texts name.0 ∷ ts) (texts_of_numbers texts list)
+
+alone_named : (text : ℕ → List ℕ) (ns : List ℕ) → with_names text (booleans_alone ns) ≡ booleans_alone (map text ns)
+alone_named text ns = ap (λ (ps : List spec.Param). let f : spec.Features = record { params = ps; constraints = [] } in f) (each_named ns)
+  where
+    each_named : (ns : List ℕ) → (with_names text (booleans_alone ns)).params ≡ (booleans_alone (map text ns)).params
+    each_named [] = refl
+    each_named (n ∷ ns) = ap (λ (ps : List spec.Param). (let p : spec.Param = record { name = text n; kind = spec.ABoolean } in p) ∷ ps) (each_named ns)
+
+alone_held : (P : ℕ → Type 0) (f : Features) (ns : List ℕ) → features_of f ≡ booleans_alone ns → AllByRecursion P ns → EachName P (features_of f)
+alone_held P f ns is held = subst (EachName P) (sym is) (record { params = each_held ns held; constraints = tt })
+  where
+    each_held : (ns : List ℕ) → AllByRecursion P ns → AllByRecursion (λ (p : spec.ParamOf ℕ). P p.name) (booleans_alone ns).params
+    each_held [] held = tt
+    each_held (n ∷ ns) held = (held.0, each_held ns held.1)
+
+features_named : (f : Features) (list : List NameId) → features_of f ≡ booleans_alone (distinct_by ◌==◌ (numbers_of list)) → AreNamed list f
+features_named f list is texts are held =
+    let ns = distinct_by ◌==◌ (numbers_of list) in
+    let all = held_numbers texts list held in (
+      ap (with_names (text_of texts)) is ∙ alone_named (text_of texts) ns
+          ∙ ap booleans_alone (distinct_alike ◌==◌ bytes_eq (text_of texts) (λ n. n < length texts) (same_texts texts are) (numbers_of list) all ∙ ap distinct (texts_of_numbers texts list)),
+      alone_held (λ n. n < length texts) f ns is (distinct_held ◌==◌ (λ n. n < length texts) (numbers_of list) all),
+    )
+
 pub features_made : (f : Features) {i : ℕ} {list : List NameId} → AreKept f.params.items i list → length list ≤ i → f.constraints.items ≡ [] → i ≤ param_limit → AreMade f list
-features_made f {i} {list} k past none few = record {
-  names = ap (λ ps. record { params = ps; constraints = map (λ id. expr_at f.arena.exprs id.0) f.constraints.items }) (kept_all k past) ∙ ap (λ cs. record { params = (booleans_alone (distinct_by ◌==◌ (numbers_of list))).params; constraints = map (λ id. expr_at f.arena.exprs id.0) cs }) none;
-  sound = record {
-    few = omega (arith, k.few);
-    distinct = k.distinct;
-    few_constraints = omega (arith, ap length none);
-    within = subst (All (λ id. id.0 < length f.arena.exprs)) (sym none) (All-nil (λ id. id.0 < length f.arena.exprs));
-    few_parts = omega (arith, ap (λ ids. sum_by parts (map (λ id. expr_at f.arena.exprs id.0) ids)) none);
-  };
-}
+features_made f {i} {list} k past none few =
+    let made : features_of f ≡ booleans_alone (distinct_by ◌==◌ (numbers_of list)) = ap (λ ps. record { params = ps; constraints = map (λ id. expr_at f.arena.exprs id.0) f.constraints.items }) (kept_all k past) ∙ ap (λ cs. record { params = (booleans_alone (distinct_by ◌==◌ (numbers_of list))).params; constraints = map (λ id. expr_at f.arena.exprs id.0) cs }) none in record {
+      names = made;
+      named = features_named f list made;
+      sound = record {
+        few = omega (arith, k.few);
+        distinct = k.distinct;
+        few_constraints = omega (arith, ap length none);
+        within = subst (All (λ id. id.0 < length f.arena.exprs)) (sym none) (All-nil (λ id. id.0 < length f.arena.exprs));
+        few_parts = omega (arith, ap (λ ids. sum_by parts (map (λ id. expr_at f.arena.exprs id.0) ids)) none);
+      };
+    }

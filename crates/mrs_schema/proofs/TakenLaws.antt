@@ -10,7 +10,7 @@ use Rattle.spec_walk.specs.Event.{TooMany, Fault}
 use Rattle.spec_walk.specs.Limits.{Counts, ◌>>=◌}
 use Rattle.spec_walk.specs.Walk.{Done, gives}
 use Rattle.spec_walk.specs.Spot.{Spot, named}
-use Rattle.mrs_names.specs.Texts.{IsExtended, place_of, with_name, is_refused, AreDistinct}
+use Rattle.mrs_names.specs.Texts.{IsExtended, place_of, with_name, is_refused, AreDistinct, AreNames}
 use Rattle.mrs_names.proofs.PlaceLaws.{place_of-at, with_name-new, with_name-held}
 use Rattle.mrs_arena.specs.Flat.{FlatItem, Built}
 use Rattle.mrs_arena.specs.Placed.{text_of, item_of, placed_node, IsHeldItem}
@@ -113,6 +113,11 @@ same_number text names k distinct within = go (bytes_eq text (text_of names k)) 
         other : (b : Bool) → (k == id) ≡ b → (k == id) ≡ false
         other false f = f
         other true f = absurd (let found = (bytes_eq-Decides text (text_of names k)).1 (sym (text_of-place text names id p) ∙ ap (text_of names) (sym (eqb-true k id f))) in cc)
+
+-- numbers are the same where their texts are
+pub same_texts : (names : List (List ℕ)) → AreNames names → (m n : ℕ) → m < length names → n < length names → (m == n) ≡ bytes_eq (text_of names m) (text_of names n)
+same_texts names are m n low high = sym (
+    bytes_eq-turned (text_of names m) (text_of names n) ∙ same_number (text_of names n) names m are.distinct low ∙ ap (λ o. is_number o m) (place_of-held names n are.distinct high))
 
 abbrev pub has_number : Option ℕ → FlatItem → Bool
 has_number number it = unwrap_or (option_map (is_number number) it.name) false

@@ -2,9 +2,9 @@
 
 ghost use Rattle.std.specs.Prelude.{◌≡◌, ◌==◌, ◌≤◌, length, map, IfOk};
 ghost use Rattle.std.specs.List.{list_any};
-ghost use Rattle.spec_features.specs.Features.{param_limit};
+ghost use Rattle.spec_features.specs.Features.{booleans_alone, param_limit};
 ghost use Rattle.spec_names.specs.Distinct.{distinct_by};
-ghost use Rattle.mrs_schema.specs.FeatureViews.{features_of, booleans_alone, AreFeatures};
+ghost use Rattle.mrs_schema.specs.FeatureViews.{features_of, AreFeatures, AreNamed};
 
 use mrs_arena::{Arena, ArenaBuilder, ExprId};
 use mrs_names::NameId;
@@ -42,6 +42,7 @@ impl Features {
     pub fn of_names(alloc: Global, list: &[NameId]) -> Result<Features, NoMemory>
         requires { length list.now ≤ param_limit }
         ensures names { IfOk result (λ features. features_of features ≡ booleans_alone (distinct_by ◌==◌ (map (λ name. name.0) list.now))) }
+        ensures named { IfOk result (AreNamed list.now) }
         ensures sound { IfOk result AreFeatures }
     {
         let mut params = Vec::new(alloc);

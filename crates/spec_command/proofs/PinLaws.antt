@@ -1,5 +1,5 @@
 -- Words that are accepted hold no more pins than may be.
-use Rattle.std.proofs.Common.{◌≡◌, ℕ, zero, suc, ◌+◌, ◌<◌, ◌≤◌, Bool, true, false, not, ◌==◌, cond, List, [], ◌∷◌, length, take, get_or, Option, Some, None, is_none, option_map, unwrap_or, option_and_then, Ok, bytes_eq, codes, refl, sym, ap, ◌∙◌, subst, inl, inr, arith, add-one}
+use Rattle.std.proofs.Common.{◌≡◌, ℕ, zero, suc, ◌+◌, ◌<◌, ◌≤◌, Bool, true, false, not, ◌==◌, ◌||◌, cond, List, [], ◌∷◌, length, take, get_or, Option, Some, None, is_none, option_map, unwrap_or, option_and_then, Ok, bytes_eq, codes, refl, sym, ap, ◌∙◌, subst, inl, inr, arith, add-one}
 use Rattle.std.specs.Prelude.{nat_lt}
 use Rattle.std.proofs.Math.Seq.{take-length}
 use Rattle.std.specs.List.{find, range_with_len, count_by, cons_option}
@@ -8,7 +8,8 @@ use Rattle.std.proofs.lemmas.List.Sums.{count_by_more_yes, count_by_more_no, sum
 use Rattle.std.proofs.lemmas.Slice.Eq.{bytes_eq-Decides}
 use Rattle.spec_command.specs.Ask.{every, handed}
 use Rattle.spec_command.specs.Setting.{setting_in, settings_in, values_in, value_in}
-use Rattle.spec_command.specs.Commands.{Release, Request, AskList, AskAsm, AskLeaf, AskProof, list_command, asm_command, leaf_command, proof_command, release, bare_by, form, limit_by, limit, pin_keys, pin_limit, is_one_of, takes}
+use Rattle.spec_command.specs.Commands.{Release, Request, AskList, AskAsm, AskLeaf, AskProof, list_command, asm_command, leaf_command, proof_command, release, bare_by, form, limit_by, limit, pin_limit, is_one_of, takes}
+use Rattle.spec_command.specs.Pins.{pin_keys, pins_in}
 use Rattle.spec_command.specs.Request.{is_pin, is_good, is_bad_at, first_bad, complete, settled, said, request}
 
 -- a place that a search has passed fails its test
@@ -62,6 +63,29 @@ values_few key pins (word ∷ words) = subst (λ n. length (values_in key (setti
         → length (values_in key (cons_option setting (settings_in words))) ≤ cond (unwrap_or (option_map (λ pair. is_one_of pin_keys pair.0) setting) false) 1 0 + count_by is_pin words
     go None before = omega arith
     go (Some pair) before = here pair (bytes_eq key pair.0) refl before
+
+-- so are pins of both keys together
+pins_few : (words : List (List ℕ)) → length (pins_in (settings_in words)) ≤ count_by is_pin words
+pins_few [] = omega arith
+pins_few (word ∷ words) = subst (λ n. length (pins_in (settings_in (word ∷ words))) ≤ n) (sym (sum_by-cons (λ w. cond (is_pin w) 1 0) word words)) (go (setting_in word) (pins_few words))
+  where
+    here : (value : List ℕ) (on off : Bool) → length (pins_in (settings_in words)) ≤ count_by is_pin words
+        → length (cons_option (cond on (Some (value, true)) (cond off (Some (value, false)) None)) (pins_in (settings_in words))) ≤ cond (on || (off || false)) 1 0 + count_by is_pin words
+    here value true off before = omega arith
+    here value false true before = omega arith
+    here value false false before = omega arith
+
+    go : (setting : Option (List ℕ × List ℕ)) → length (pins_in (settings_in words)) ≤ count_by is_pin words
+        → length (pins_in (cons_option setting (settings_in words))) ≤ cond (unwrap_or (option_map (λ pair. is_one_of pin_keys pair.0) setting) false) 1 0 + count_by is_pin words
+    go None before = omega arith
+    go (Some pair) before = here pair.1 (bytes_eq (codes "on") pair.0) (bytes_eq (codes "off") pair.0) before
+
+-- behind words that are all good, no more pins stand than may be
+pub few_pins : (keys words : List (List ℕ)) → first_bad keys words ≡ None → length (pins_in (settings_in words)) ≤ pin_limit
+few_pins keys words first =
+    let all = few_of_first keys words (passed (is_bad_at keys words) 0 (length words) first) (length words) (omega arith) in
+    let some = pins_few words in
+    omega (arith, ap (count_by is_pin) (take-length words))
 
 -- ---- what a request pins
 

@@ -1,6 +1,7 @@
 -- Worked values: command lines.
 use Rattle.std.specs.Prelude.{◌≡◌, [], ◌∷◌, true, false, Some, None, Ok, Err, codes, refl}
 use Rattle.spec_command.specs.Setting.{value_in}
+use Rattle.spec_command.specs.Pins.{pins_in}
 use Rattle.spec_command.specs.Commands.{AskList, AskAsm, AskLeaf, AskProof, leaf_command}
 use Rattle.spec_command.specs.Request.{request}
 
@@ -97,3 +98,7 @@ first_value = refl
 
 no_value : value_in (codes "max") ((codes "insns", codes "i") ∷ []) ≡ None
 no_value = refl
+
+-- pins of both keys stand in the order of the words, also where they clash
+pins_in_order : pins_in ((codes "on", codes "A") ∷ (codes "insns", codes "i") ∷ (codes "off", codes "B") ∷ (codes "off", codes "A") ∷ []) ≡ (codes "A", true) ∷ (codes "B", false) ∷ (codes "A", false) ∷ []
+pins_in_order = refl

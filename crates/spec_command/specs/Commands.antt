@@ -3,6 +3,7 @@ use Rattle.std.specs.Prelude.{ℕ, Bool, true, false, List, [], ◌∷◌, Optio
 use Rattle.std.specs.List.{list_any}
 use Rattle.spec_names.specs.Name.{is_name}
 use Rattle.spec_command.specs.Number.{number_below}
+use Rattle.spec_command.specs.Pins.{pin_keys}
 use Rattle.spec_command.specs.Ask.{Ask, needed, may_say, may_be, every, made_into, together, handed}
 
 -- the set of instructions of a document: the document's name, and that of the set
@@ -61,10 +62,6 @@ proof_command = record { word = codes "proof"; asks = made_into AskProof (needed
 
 abbrev pub commands : List Command
 commands = list_command ∷ asm_command ∷ leaf_command ∷ proof_command ∷ []
-
--- the keys of pins: words that settle features. Several words may have such a key
-abbrev pub pin_keys : List (List ℕ)
-pin_keys = codes "on" ∷ []
 
 -- the most pins
 abbrev pub pin_limit : ℕ

@@ -2,7 +2,8 @@
 use Rattle.std.specs.Prelude.{ℕ, ◌+◌, Bool, false, not, ◌&&◌, ◌==◌, nat_lt, List, [], ◌∷◌, length, take, slice_index_or, count_by, Option, Some, None, is_none, option_map, unwrap_or, bytes_eq, if◌then◌else◌, Result, Ok, Err}
 use Rattle.std.specs.List.{find, range_with_len}
 use Rattle.spec_command.specs.Setting.{setting_in, settings_in, value_in}
-use Rattle.spec_command.specs.Commands.{Request, Command, commands, pin_keys, pin_limit, is_one_of, takes}
+use Rattle.spec_command.specs.Pins.{pin_keys}
+use Rattle.spec_command.specs.Commands.{Request, Command, commands, pin_limit, is_one_of, takes}
 
 -- whether a word is a pin
 abbrev pub is_pin : List ℕ → Bool

@@ -3,7 +3,7 @@ use Rattle.std.specs.Prelude.{◌≡◌, ℕ, List, [], ◌∷◌, Some, None, O
 use Rattle.spec_bits.specs.Pattern.{Digit, Zero, One, Either}
 use Rattle.spec_bits.specs.Item.{Item}
 use Rattle.spec_expressions.specs.Expression.{Expr, Boolean, Name, Bits, Binary, Eq, Call, IsFeatureImplemented, exprs_of}
-use Rattle.spec_expressions.specs.Truth.{Yes, No, Open}
+use Rattle.spec_expressions.specs.Truth.{Yes}
 use Rattle.spec_expressions.specs.Scope.{Configuration, Flag}
 use Rattle.spec_instructions.specs.Kind.{Leaf, Alias}
 use Rattle.spec_instructions.specs.Tree.{Own, bare}

@@ -10,3 +10,4 @@ pub mod FactLaws
 pub mod Renamed
 pub mod PartLaws
 pub mod ChoiceLaws
+pub mod Distinct

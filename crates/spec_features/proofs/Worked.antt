@@ -2,11 +2,12 @@
 use Rattle.std.proofs.Common.{◌≡◌, ℕ, pos, negsuc, Bool, true, false, List, [], ◌∷◌, Option, Some, None, refl}
 use Rattle.std.specs.Prelude.{codes, bytes_eq}
 use Rattle.spec_expressions.specs.Expression.{And, Or, Implies, Iff, Eq, IsFeatureImplemented, Named, Expr, Boolean, Name, Not, Binary, Call, Other, no_exprs, expr}
+use Rattle.spec_expressions.specs.Scope.{Flag}
 use Rattle.spec_features.specs.Features.{ABoolean, AnInteger, Param, Features}
 use Rattle.spec_features.specs.Formula.{Conjunction, Variable, Negation, Joined}
 use Rattle.spec_features.specs.Theory.{TheoryOf, theory, states}
 use Rattle.spec_features.specs.Fits.{PinOf, unknown_pin}
-use Rattle.spec_features.specs.Choice.{all_states, first_fitting}
+use Rattle.spec_features.specs.Choice.{all_states, first_fitting, first_configuration}
 use Rattle.spec_features.specs.Clauses.{variables, clauses}
 
 abbrev boolean : List ℕ → Param
@@ -76,6 +77,11 @@ no_pin = refl
 
 aes_off : first_of ((codes "FEAT_AES", false) ∷ []) ≡ Some (false ∷ false ∷ true ∷ true ∷ [])
 aes_off = refl
+
+-- FEAT_AES off is in use with the states of all three, and the atom behind them
+in_use : first_configuration small_theory ((codes "FEAT_AES", false) ∷ [])
+    ≡ Some (record { parameters = record { name = codes "FEAT_AES"; state = Flag false } ∷ record { name = codes "FEAT_PMULL"; state = Flag false } ∷ record { name = codes "FEAT_TST"; state = Flag true } ∷ []; atoms = true ∷ [] })
+in_use = refl
 
 tst_on : first_of ((codes "FEAT_TST", true) ∷ []) ≡ Some (false ∷ false ∷ true ∷ true ∷ [])
 tst_on = refl

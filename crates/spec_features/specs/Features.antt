@@ -1,5 +1,5 @@
 -- Features of the architecture: parameters, and constraints on them. A name is of some type; in a document it is its text.
-use Rattle.std.specs.Prelude.{ℕ, Bool, true, false, List, map, filter}
+use Rattle.std.specs.Prelude.{ℕ, Bool, true, false, List, [], map, filter}
 use Rattle.std.specs.List.{AllByRecursion}
 use Rattle.spec_expressions.specs.Expression as expression
 use Rattle.spec_expressions.specs.Expression.{ExprOf}
@@ -34,6 +34,10 @@ is_boolean AnEnum = false
 -- the names of the boolean parameters, in order
 abbrev pub booleans : {N : Type 0} → List (ParamOf N) → List N
 booleans params = map (λ p. p.name) (filter (λ p. is_boolean p.kind) params)
+
+-- parameters of these names, each on or off, and no constraint
+abbrev pub booleans_alone : {N : Type 0} → List N → FeaturesOf N
+booleans_alone names = record { params = map (λ name. record { name = name; kind = ABoolean }) names; constraints = [] }
 
 -- the most parameters
 abbrev pub param_limit : ℕ

@@ -1,5 +1,5 @@
 -- The aliases are those of leaves, in their order; in the tree of a document without faults they are all; and their labels tell them apart.
-use Rattle.std.proofs.Common.{◌≡◌, ◌≢◌, ◌∙◌, sym, ap, refl, subst, ℕ, zero, suc, ◌+◌, ◌<◌, ◌≤◌, Bool, true, false, cond, List, [], ◌∷◌, ◌++◌, length, map, filter, Some, All, arith, inl, inr}
+use Rattle.std.proofs.Common.{◌≡◌, ◌≢◌, ◌∙◌, sym, ap, refl, subst, ℕ, zero, suc, ◌+◌, ◌<◌, ◌≤◌, Bool, true, false, cond, List, [], ◌∷◌, ◌++◌, length, map, filter, Some, arith, inl, inr}
 use Rattle.std.specs.Prelude.{slice_get, AllPairs, ⊤}
 use Rattle.std.specs.List.{AllByRecursion}
 use Rattle.std.proofs.lemmas.List.{map-append, length-map}
@@ -8,7 +8,7 @@ use Rattle.std.proofs.lemmas.List.Kept.{AllPairs-cons}
 use Rattle.spec_instructions.specs.Name.{is_name}
 use Rattle.spec_instructions.specs.Kind.{Kind, Set, Group, Leaf, Alias, Instance, kinds_in}
 use Rattle.spec_instructions.specs.Tree.{Own, Node, node, Nodes, no_nodes, more}
-use Rattle.spec_instructions.specs.Shape.{IsAmong, MayStand, node_kind, IsShaped, AreShaped, IsSound, AreSound}
+use Rattle.spec_instructions.specs.Shape.{MayStand, node_kind, IsShaped, AreShaped, IsSound, AreSound}
 use Rattle.spec_instructions.specs.Paths.{paths_at, paths_from, paths_among, path_name}
 use Rattle.spec_instructions.specs.Aliases.{AliasPath, alias_path, alias_paths, with_alias, leaf_aliases, aliases_at, aliases_from, aliases_among, aliases_in, IsBelowLeaf, AliasesAreBelowLeaves, owns_of, owns_among, is_alias, AliasesAreAll, LabelsTellAliases}
 use Rattle.spec_instructions.proofs.LabelLaws.{labels_tell_leaves}

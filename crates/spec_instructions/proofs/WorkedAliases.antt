@@ -1,5 +1,5 @@
 -- Worked values: the aliases of two leaves, of which two have one name.
-use Rattle.std.specs.Prelude.{◌≡◌, List, [], ◌∷◌, Some, None, map, codes, refl}
+use Rattle.std.specs.Prelude.{◌≡◌, [], ◌∷◌, Some, None, map, codes, refl}
 use Rattle.std.specs.Fmt.{digits}
 use Rattle.spec_instructions.specs.Kind.{Set, Group, Leaf, Alias}
 use Rattle.spec_instructions.specs.Tree.{Own, bare, Node, node, no_nodes, more}

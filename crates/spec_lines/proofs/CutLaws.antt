@@ -93,8 +93,8 @@ assembled-append number machine ([] ∷ lines) more =
 assembled-append number machine ((byte ∷ line) ∷ lines) more =
     let n : number + 1 + length lines ≡ number + suc (length lines) = omega arith in
     line_before number (parsed machine (byte ∷ line)) (assembled_from (number + 1) machine lines) _ _
-      (assembled-append (number + 1) machine lines more
-      ∙ ap (λ k. followed (assembled_from (number + 1) machine lines).refused (assembled_from (number + 1) machine lines).bytes (assembled_from k machine more)) n)
+    (assembled-append (number + 1) machine lines more
+    ∙ ap (λ k. followed (assembled_from (number + 1) machine lines).refused (assembled_from (number + 1) machine lines).bytes (assembled_from k machine more)) n)
 
 bytes_of_followed : (bad : Option BadLine) (bytes : List ℕ) (later : Assembled) → (rest : List ℕ) × ((followed bad bytes later).bytes ≡ bytes ++ rest)
 bytes_of_followed None bytes later = (later.bytes, refl)
@@ -139,7 +139,7 @@ pub long_behind : (machine : Machine) (lines more : List (List ℕ)) (line : Lis
     → assembled_from 1 machine (lines ++ (line ∷ more)) ≡ record { bytes = (assembled_from 1 machine lines).bytes; refused = Some (record { number = 1 + length lines; fault = record { at = line_limit; why = Long } }) }
 long_behind machine lines more line none long =
     assembled-append 1 machine lines (line ∷ more) ∙ rw (none, long_line (1 + length lines) machine line more long)
-      (ap (λ bytes. record { bytes = bytes; refused = Some (record { number = 1 + length lines; fault = record { at = line_limit; why = Long } }) }) (append-nil (assembled_from 1 machine lines).bytes))
+    (ap (λ bytes. record { bytes = bytes; refused = Some (record { number = 1 + length lines; fault = record { at = line_limit; why = Long } }) }) (append-nil (assembled_from 1 machine lines).bytes))
 
 -- ---- what first bytes decide
 

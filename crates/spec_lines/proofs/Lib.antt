@@ -1,4 +1,8 @@
 pub mod Digits
+pub mod NumberLaws
+pub mod TokenLaws
+pub mod PairLaws
+pub mod ReadBackLaws
 pub mod Streams
 pub mod StreamLines
 pub mod CutLaws

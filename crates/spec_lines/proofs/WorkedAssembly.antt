@@ -1,18 +1,17 @@
 -- Worked values: lines of assembly over leaves of a small release, and the reasons why they are refused.
-use Rattle.std.specs.Prelude.{◌≡◌, ℕ, ◌+◌, List, [], ◌∷◌, ◌++◌, replicate, flat_map, None, Some, Result, Ok, Err, map, filter_map, true, false, codes, refl}
+use Rattle.std.specs.Prelude.{◌≡◌, ℕ, List, [], ◌∷◌, ◌++◌, replicate, flat_map, None, Some, Result, Ok, Err, map, filter_map, true, false, codes, refl}
 use Rattle.std.specs.Fmt.{digits}
 use Rattle.std.specs.Result.{result_map_both}
 use Rattle.spec_bits.specs.Pattern.{Digit}
 use Rattle.spec_bits.specs.PatternText.{digit_of}
 use Rattle.spec_bits.specs.Item.{Item}
 use Rattle.spec_expressions.specs.Expression.{Name, Call, IsFeatureImplemented, exprs_of}
-use Rattle.spec_expressions.specs.Scope.{Configuration, Flag}
-use Rattle.spec_instructions.specs.Kind.{Set, Group, Leaf}
+use Rattle.spec_expressions.specs.Scope.{Flag}
+use Rattle.spec_instructions.specs.Kind.{Group, Leaf}
 use Rattle.spec_instructions.specs.Tree.{Own, bare}
 use Rattle.spec_decode.specs.Machine.{Machine}
 use Rattle.spec_encoding.specs.Parts.{highest, number_of_bits}
-use Rattle.spec_lines.specs.Token.{tokens}
-use Rattle.spec_lines.specs.LineFault.{LineFault, Long, Head, Label, Pair, Many}
+use Rattle.spec_lines.specs.LineFault.{LineFault, Head}
 use Rattle.spec_lines.specs.Given.{pair_in}
 use Rattle.spec_lines.specs.Parsed.{parsed}
 use Rattle.spec_lines.specs.Reasons.{reason}

@@ -18,3 +18,4 @@ pub mod Parsed
 pub mod Reasons
 pub mod Assembly
 pub mod Cut
+pub mod ReadBack

@@ -1,7 +1,7 @@
 use Rattle.std.proofs.Common.{◌∙◌, ap, subst, arith, length, take, drop}
 use Rattle.feat_solve.specs.Answers.{Solves}
 use Rattle.feat_model.proofs.Outcomes.{first_reaches, first_chosen, first_fits, none_fits, refutation_written}
-use Rattle.feat_model.proofs.configuring.configure.Goals as goal
+use Rattle.feat_model.proofs.configuring.configured.Goals as goal
 
 pub configuration-requires : goal.configuration-requires
 configuration-requires c =

@@ -5,5 +5,5 @@ use Rattle.insn_tree.specs.Trees.{number_of}
 use Rattle.insn_tree.specs.Labels.{has_flat_label}
 use Rattle.insn_tree.proofs.labels.find_labels.Given as goal
 
-abbrev pub invariant-loop-leaf : goal.invariant-loop-leaf
-invariant-loop-leaf l = (text : List ℕ) → number_of text l.labels ≡ find (has_flat_label l.names (map (λ name. name.0) l.leaf_names) l.shared text) (range_with_len 0 l.leaf)
+abbrev pub invariant-loop-k : goal.invariant-loop-k
+invariant-loop-k l = (text : List ℕ) → number_of text l.labels ≡ find (has_flat_label l.names (map (λ name. name.0) l.path_names) l.shared text) (range_with_len 0 l.k)

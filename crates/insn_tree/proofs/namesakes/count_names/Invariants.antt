@@ -1,5 +1,5 @@
 use Rattle.std.proofs.Common.{◌≡◌, ◌<◌, ℕ, length, map, take, get_or}
-use Rattle.insn_tree.specs.Leaves.{sakes}
+use Rattle.insn_tree.specs.Ends.{sakes}
 use Rattle.insn_tree.proofs.namesakes.count_names.Given as goal
 
 -- the names of the turns before are counted

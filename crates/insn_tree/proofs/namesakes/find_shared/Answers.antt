@@ -1,7 +1,7 @@
 use Rattle.std.proofs.Common.{◌∙◌, ap, nat_lt, get_or, arith}
 use Rattle.std.proofs.lemmas.List.{get_or_default}
 use Rattle.mrs_names.specs.declared.name_id.NameId.{NameId}
-use Rattle.insn_tree.specs.Leaves.{is_shared}
+use Rattle.insn_tree.specs.Ends.{is_shared}
 use Rattle.insn_tree.proofs.CountLaws.{numbers}
 use Rattle.insn_tree.proofs.ListLaws.{fill_step}
 use Rattle.insn_tree.proofs.namesakes.find_shared.Goals as goal

@@ -1,5 +1,5 @@
 use Rattle.std.proofs.Common.{◌≡◌, ◌++◌, map, drop}
-use Rattle.insn_tree.specs.Leaves.{is_shared}
+use Rattle.insn_tree.specs.Ends.{is_shared}
 use Rattle.insn_tree.proofs.namesakes.find_shared.Given as goal
 
 abbrev pub invariant-loop-name : goal.invariant-loop-name

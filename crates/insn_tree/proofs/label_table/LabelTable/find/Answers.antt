@@ -5,6 +5,5 @@ use Rattle.insn_tree.proofs.label_table.LabelTable.find.Goals as goal
 
 pub returns : goal.returns
 returns c =
-    let entries = c.self.inside.leaves.entries in
-    c.copied.ensures ∙ c.get.ensures.value ∙ lookup-labels c.args.text.now entries
-    ∙ ap (number_of c.args.text.now) c.self.view_is
+    let entries = c.self.inside.numbers.entries in
+    c.copied.ensures ∙ c.get.ensures.value ∙ lookup-labels c.args.text.now entries ∙ ap (number_of c.args.text.now) c.self.view_is

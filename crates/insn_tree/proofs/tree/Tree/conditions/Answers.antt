@@ -9,7 +9,7 @@ use Rattle.ast_eval.specs.Views.{truth_of}
 use Rattle.insn_tree.specs.Verdicts.{AreConditions}
 use Rattle.insn_tree.specs.OwnTexts.{conditions_up}
 use Rattle.insn_tree.specs.Trees.{TreeParts}
-use Rattle.insn_tree.proofs.KeptLaws.{AreLeaves-of}
+use Rattle.insn_tree.proofs.LeafKeptLaws.{AreLeaves-of}
 use Rattle.insn_tree.proofs.TruthLaws.{leaf_conditions_are, no_conditions_at}
 use Rattle.insn_tree.proofs.OwnTextLaws.{leaf_free}
 use Rattle.insn_tree.proofs.tree.Tree.conditions.Goals as goal

@@ -3,7 +3,7 @@ use Rattle.spec_bits.specs.Pattern.{pattern_holds}
 use Rattle.bit_pattern.specs.Views.{digits_of}
 use Rattle.insn_tree.specs.Trees.{TreeParts}
 use Rattle.insn_tree.proofs.HoldLaws.{holds_of}
-use Rattle.insn_tree.proofs.KeptLaws.{AreLeaves-of, holds_kept}
+use Rattle.insn_tree.proofs.LeafKeptLaws.{AreLeaves-of, holds_kept}
 use Rattle.insn_tree.proofs.tree.Tree.items_hold.Goals as goal
 
 pub returns-in-Some : goal.returns-in-Some

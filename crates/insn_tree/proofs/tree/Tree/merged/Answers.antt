@@ -1,6 +1,6 @@
 use Rattle.std.proofs.Common.{ap}
 use Rattle.insn_tree.specs.Trees.{TreeParts}
-use Rattle.insn_tree.proofs.KeptLaws.{AreLeaves-of, merged_kept}
+use Rattle.insn_tree.proofs.LeafKeptLaws.{AreLeaves-of, merged_kept}
 use Rattle.insn_tree.proofs.tree.Tree.merged.Goals as goal
 
 pub returns-clause-bits : goal.returns-clause-bits

@@ -15,4 +15,4 @@ loop-name-preserved c =
 pub returns : goal.returns
 returns c =
     let made = features_made (record { arena = c.close.result; params = c.loop-name.params; constraints = c.new-2.result }) c.loop-name.invariant c.loop-name-test.false c.new-2.ensures.items (omega (arith, c.requires)) in
-    record { names = made.names; sound = made.sound }
+    record { names = made.names; named = made.named; sound = made.sound }

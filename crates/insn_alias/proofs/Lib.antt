@@ -1,0 +1,2 @@
+mod PreferenceLaws
+mod WalkLaws

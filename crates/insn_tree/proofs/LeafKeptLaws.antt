@@ -1,0 +1,49 @@
+-- What the table of leaves says of them.
+use Rattle.std.proofs.Common.{◌≡◌, ◌∙◌, sym, ap, subst, ℕ, ◌<◌, ◌≤◌, Bool, List, [], length, map, get_or, Option, None, option_map, arith}
+use Rattle.std.proofs.lemmas.List.{length-map, get_or-map}
+use Rattle.bit_pattern.specs.declared.pattern.Pattern.{Pattern}
+use Rattle.bit_pattern.specs.Views.{digits_of}
+use Rattle.spec_instructions.specs.Fields.{merged}
+use Rattle.spec_decode.specs.Verdict.{path_holds}
+use Rattle.spec_walk.specs.Limits.{node_limit}
+use Rattle.mrs_arena.specs.declared.kind.Kind.{Kind}
+use Rattle.mrs_arena.specs.declared.node_id.NodeId.{NodeId}
+use Rattle.mrs_arena.specs.Flat.{FlatNode}
+use Rattle.mrs_arena.specs.Formed.{AreNodes}
+use Rattle.mrs_arena.specs.Placed.{path_to, paths_of, leaves_of}
+use Rattle.insn_tree.specs.declared.leaf_table.LeafTable.{LeafTable}
+use Rattle.insn_tree.specs.Words.{merged_at}
+use Rattle.insn_tree.specs.Kept.{AreLeaves}
+use Rattle.insn_tree.proofs.ListLaws.{image-at}
+use Rattle.insn_tree.proofs.WordLaws.{merged-at}
+use Rattle.insn_tree.proofs.HoldLaws.{holds_of, merged-holds}
+
+-- the table of the nodes that a tree shows
+pub AreLeaves-of : (table : LeafTable) (nodes shown : List FlatNode) → nodes ≡ shown → AreLeaves nodes table → AreLeaves shown table
+AreLeaves-of table nodes shown same kept = subst (λ (ns : List FlatNode). AreLeaves ns table) same kept
+
+pub few_kept : (nodes : List FlatNode) → AreNodes nodes → (items : List NodeId) (kept : List ℕ) → map (λ n. n.0) items ≡ kept → length kept ≤ length nodes → length items ≤ node_limit
+few_kept nodes formed items kept same few = omega (arith, ap length same, length-map items (λ (n : NodeId). n.0), formed.few)
+
+-- the path of a leaf is that to its node
+pub path-leaf : (names : List (List ℕ)) (nodes : List FlatNode) (l : ℕ) → l < length (leaves_of nodes) → get_or (paths_of names nodes) l [] ≡ path_to names nodes (get_or (leaves_of nodes) l 0)
+path-leaf names nodes l within = get_or-map (path_to names nodes) (leaves_of nodes) l 0 [] within
+
+module _ (nodes : List FlatNode) (table : LeafTable) (kept : AreLeaves nodes table) (l : ℕ) (within : l < length (leaves_of nodes)) where
+  abbrev here : ℕ
+  here = get_or (leaves_of nodes) l 0
+
+  merged_here : (o : Option Pattern) → o ≡ get_or table.merged.items l o → option_map digits_of o ≡ merged_at nodes here
+  merged_here o at =
+      let count : l < length (map (merged_at nodes) (leaves_of nodes)) = omega (arith, within, length-map (leaves_of nodes) (merged_at nodes)) in
+      image-at (option_map digits_of) table.merged.items (map (merged_at nodes) (leaves_of nodes)) kept.merged_are l o None count at
+      ∙ get_or-map (merged_at nodes) (leaves_of nodes) l 0 None within
+
+  pub merged_kept : (o : Option Pattern) → o ≡ get_or table.merged.items l o → (names : List (List ℕ)) → option_map digits_of o ≡ merged (get_or (paths_of names nodes) l [])
+  merged_kept o at names = merged_here o at ∙ sym (merged-at names nodes here) ∙ ap merged (sym (path-leaf names nodes l within))
+
+  pub holds_kept : (o : Option Pattern) → o ≡ get_or table.merged.items l o → (names : List (List ℕ)) (w : ℕ) → holds_of (option_map digits_of o) w ≡ path_holds (get_or (paths_of names nodes) l []) w
+  holds_kept o at names w =
+      ap (λ ds. holds_of ds w) (merged_here o at ∙ sym (merged-at names nodes here))
+      ∙ merged-holds names nodes kept.paths.formed here w
+      ∙ ap (λ path. path_holds path w) (sym (path-leaf names nodes l within))

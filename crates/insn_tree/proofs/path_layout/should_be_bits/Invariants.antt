@@ -1,0 +1,12 @@
+use Rattle.std.proofs.Common.{◌≡◌, ◌<◌, ℕ, All, length}
+use Rattle.word_layout.specs.Views.{fixed_in}
+use Rattle.insn_tree.specs.Upward.{upward}
+use Rattle.insn_tree.specs.Layouts.{should_last, should_be_at}
+use Rattle.insn_tree.proofs.path_layout.should_be_bits.Given as goal
+
+-- with what the nodes that are left say it is all that the path says
+abbrev pub invariant-loop-above : goal.invariant-loop-above
+invariant-loop-above l = record {
+  bits : (i : ℕ) → upward (should_last i) l.arena.nodes l.above-iterator (fixed_in l.should_be i) ≡ should_be_at l.arena.nodes l.fn.n.0 i;
+  nodes : All (λ k. k < length l.arena.nodes) l.above-iterator;
+}

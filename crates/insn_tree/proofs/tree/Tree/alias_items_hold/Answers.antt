@@ -1,0 +1,21 @@
+use Rattle.std.proofs.Common.{◌∙◌, sym, ap, option_map}
+use Rattle.spec_bits.specs.Pattern.{pattern_holds}
+use Rattle.bit_pattern.specs.Views.{digits_of}
+use Rattle.insn_tree.specs.Trees.{TreeParts}
+use Rattle.insn_tree.proofs.HoldLaws.{holds_of}
+use Rattle.insn_tree.proofs.AliasKeptLaws.{AreAliases-of, own_kept}
+use Rattle.insn_tree.proofs.tree.Tree.alias_items_hold.Goals as goal
+
+pub returns-in-Some : goal.returns-in-Some
+returns-in-Some c names =
+    let kept = AreAliases-of c.self.inside.aliases c.self.inside.arena.nodes c.args.self.now.nodes (ap (λ (t : TreeParts). t.nodes) c.self.view_is) c.self.invariant.1 in
+    c.holds.ensures
+    ∙ ap (pattern_holds (digits_of c.in-Some.pattern)) c.from.ensures
+    ∙ ap (λ o. holds_of (option_map digits_of o) c.args.w) (sym c.in-Some.is)
+    ∙ own_kept c.args.self.now.nodes c.self.inside.aliases kept c.args.a.0 c.requires c.index.result.now c.index.ensures names c.args.w
+
+pub returns-in-None : goal.returns-in-None
+returns-in-None c names =
+    let kept = AreAliases-of c.self.inside.aliases c.self.inside.arena.nodes c.args.self.now.nodes (ap (λ (t : TreeParts). t.nodes) c.self.view_is) c.self.invariant.1 in
+    ap (λ o. holds_of (option_map digits_of o) c.args.w) (sym c.in-None.is)
+    ∙ own_kept c.args.self.now.nodes c.self.inside.aliases kept c.args.a.0 c.requires c.index.result.now c.index.ensures names c.args.w

@@ -1,0 +1,34 @@
+-- Bare lines are read back to their words.
+use Rattle.std.specs.Prelude.{ℕ, ◌^◌, ◌≡◌, ◌≢◌, ◌<◌, ◌≤◌, List, length, All, true, codes, Ok}
+use Rattle.spec_walk.specs.Limits.{leaf_limit}
+use Rattle.spec_instructions.specs.Name.{is_name}
+use Rattle.spec_instructions.specs.Tree.{Own}
+use Rattle.spec_instructions.specs.Paths.{path_name}
+use Rattle.spec_instructions.specs.Fields.{Field}
+use Rattle.spec_decode.specs.Bucket.{AreWithinWord}
+use Rattle.spec_decode.specs.Machine.{Machine}
+use Rattle.spec_encoding.specs.PathLayout.{shown}
+use Rattle.spec_lines.specs.Given.{pair_limit}
+use Rattle.spec_lines.specs.BareLine.{bare_text}
+use Rattle.spec_lines.specs.Parsed.{parsed}
+
+-- a shown field has a name, which is not `rest`
+pub record IsNamed (field : Field) : Type 0 where
+  pub name : is_name field.name ≡ true
+  pub other : field.name ≢ codes "rest"
+
+-- no leaf shows more fields than a line may have pairs
+pub record IsReadablePath (path : List Own) : Type 0 where
+  pub label : is_name (path_name path) ≡ true
+  pub few : length (shown path) ≤ pair_limit
+  pub fields : All IsNamed (shown path)
+
+-- the lines of a machine can be read back, as they can be where its leaves are those of a document without faults
+pub record IsReadable (machine : Machine) : Type 0 where
+  pub few : length machine.paths ≤ leaf_limit
+  pub within : AreWithinWord machine.paths
+  pub paths : All IsReadablePath machine.paths
+
+-- what a bare line says, without its LF, is its word
+abbrev pub BareLinesAreRead : Type 0
+BareLinesAreRead = (machine : Machine) (w : ℕ) → w < 2 ^ 32 → IsReadable machine → parsed machine (bare_text machine w) ≡ Ok w
