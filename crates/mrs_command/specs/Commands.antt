@@ -1,4 +1,5 @@
 -- The commands and the requests of the code as those of the definition.
+use Rattle.std.specs.Prelude.{◌≤◌, ◌^◌, ⊤}
 use Rattle.spec_command.specs.Commands as spec
 use Rattle.mrs_command.specs.declared.commands.Verb.{Verb}
 use Rattle.mrs_command.specs.declared.commands.Verb.TheVariants as verb
@@ -20,3 +21,10 @@ asked_of (code.List release bare max on) = spec.AskList (release_of release) bar
 asked_of (code.Asm release max on) = spec.AskAsm (release_of release) max on
 asked_of (code.Leaf release label) = spec.AskLeaf (release_of release) label.now
 asked_of (code.Proof log) = spec.AskProof log.now
+
+-- a limit of the stream is at most 2^40 bytes
+abbrev pub IsLimited : Request → Type 0
+IsLimited (code.List release bare max on) = max ≤ 2 ^ 40
+IsLimited (code.Asm release max on) = max ≤ 2 ^ 40
+IsLimited (code.Leaf release label) = ⊤
+IsLimited (code.Proof log) = ⊤

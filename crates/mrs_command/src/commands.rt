@@ -1,8 +1,8 @@
 //! The commands: the word that says each, its keys, and what it asks for.
-ghost use Rattle.std.specs.Prelude.{◌≡◌, map, option_map, Some};
+ghost use Rattle.std.specs.Prelude.{◌≡◌, ◌≤◌, ◌^◌, map, option_map, Some, IfSome};
 ghost use Rattle.spec_command.specs.Commands.{release, form, limit, is_one_of};
 ghost use Rattle.spec_command.specs.Request.{command_named};
-ghost use Rattle.mrs_command.specs.Commands.{command_of, release_of, asked_of};
+ghost use Rattle.mrs_command.specs.Commands.{command_of, release_of, asked_of, IsLimited};
 
 use crate::names::Names;
 use crate::settings::Settings;
@@ -18,7 +18,7 @@ pub struct Release<'a> {
 /// What the words of a command line ask for: a command, and what its keys say.
 #[derive(Debug, Drop)]
 pub enum Request<'a> {
-    /// `list` lists the words of a stream, of which it takes at most `max` bytes, in full lines or bare ones, under the
+    /// `list` lists the words of a stream, of which it takes at most `max` bytes, up to 2^40, in full lines or bare ones, under the
     /// features that are on, of which there are at most 4,096.
     List {
         release: Release<'a>,
@@ -87,7 +87,8 @@ impl Verb {
 
     /// What the command asks for with these settings; `None` exactly where a key that it needs is missing.
     pub(crate) fn request<'a>(self, settings: &Settings<'a>) -> Option<Request<'a>>
-        ensures { option_map asked_of result ≡ (command_of self).asks.value settings.now }
+        ensures asked { option_map asked_of result ≡ (command_of self).asks.value settings.now }
+        ensures limited { IfSome result IsLimited }
     {
         match self {
             Verb::List => {
@@ -145,7 +146,8 @@ fn is_bare(settings: &Settings<'_>) -> bool
 
 /// How many bytes of the stream settings allow.
 fn limit_in(settings: &Settings<'_>) -> u64
-    ensures { Some result ≡ limit.value settings.now }
+    ensures limit { Some result ≡ limit.value settings.now }
+    ensures within { result ≤ 2 ^ 40 }
 {
     match settings.value("max") {
         Some(text) => limit_by(text).unwrap_or(USUAL_LIMIT),

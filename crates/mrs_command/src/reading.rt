@@ -1,10 +1,10 @@
 //! Reads the words of a command line.
-ghost use Rattle.std.specs.Prelude.{◌≡◌, ◌<◌, length, take, map, string_bytes, count_by, IfSome, IfNone, IsTrue, MatchResult, Ok, Err};
+ghost use Rattle.std.specs.Prelude.{◌≡◌, ◌<◌, length, take, map, string_bytes, count_by, IfSome, IfNone, IfOk, IsTrue, MatchResult, Ok, Err};
 ghost use Rattle.std.specs.List.{list_all};
 ghost use Rattle.spec_command.specs.Setting.{setting_in};
 ghost use Rattle.spec_command.specs.Request as spec;
 ghost use Rattle.mrs_command.specs.Words.{is_setting};
-ghost use Rattle.mrs_command.specs.Commands.{command_of, asked_of};
+ghost use Rattle.mrs_command.specs.Commands.{command_of, asked_of, IsLimited};
 
 use crate::bad_word::BadWord;
 use crate::commands::{Request, Verb};
@@ -19,9 +19,10 @@ use crate::values::takes;
 /// value, a `form` that is neither `full` nor `bare`, a `max` that is no number up to 2^40, and of `on`, which several
 /// words may have, a value that is no name, and all behind 4,096 of them. A missing command is place 0. Where no word is bad, a missing key is refused at the number of words.
 pub fn read_request(words: &[String]) -> Result<Request<'_>, BadWord>
-    ensures { MatchResult result
+    ensures request { MatchResult result
         (λ asked. spec.request (map string_bytes words.now) ≡ Ok (asked_of asked))
         (λ bad. spec.request (map string_bytes words.now) ≡ Err bad.place) }
+    ensures limited { IfOk result IsLimited }
 {
     let [first, settings @ ..] = words else {
         return Err(BadWord { place: 0 });

@@ -1,5 +1,5 @@
 //! Which values keys take, and what they say.
-ghost use Rattle.std.specs.Prelude.{◌≡◌, option_map};
+ghost use Rattle.std.specs.Prelude.{◌≡◌, ◌≤◌, ◌^◌, option_map, IfSome};
 ghost use Rattle.spec_command.specs.Commands as spec;
 
 use crate::pins::is_pin_key;
@@ -25,7 +25,8 @@ pub(crate) fn bare_by(text: &str) -> Option<bool>
 
 /// The limit that a text says; `None` exactly where it is no number up to 2^40.
 pub(crate) fn limit_by(text: &str) -> Option<u64>
-    ensures { option_map (λ n. n) result ≡ spec.limit_by text.now }
+    ensures limit { option_map (λ n. n) result ≡ spec.limit_by text.now }
+    ensures within { IfSome result (λ n. n ≤ 2 ^ 40) }
 {
     match number_below(text.as_bytes(), GREATEST_LIMIT + 1) {
         Some(limit) => Some(limit as u64),

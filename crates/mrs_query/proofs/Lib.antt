@@ -1,11 +1,7 @@
 pub mod Json
-pub mod Streaming
 pub mod TextParts
 pub mod Performing
-pub mod DownLaws
-pub mod BitLaws
-pub mod HexSteps
 pub mod Verdicts
 pub mod FeatureLaws
-pub mod LineLaws
 pub mod OpeningLaws
+pub mod AssembledLaws

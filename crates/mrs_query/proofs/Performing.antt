@@ -1,8 +1,8 @@
 -- From what became of what is asked for to what the run did.
-use Rattle.std.proofs.Common.{◌≡◌, ◌≤◌, ℕ, List, Ok, Err, inl, inr, ap, arith}
+use Rattle.std.proofs.Common.{◌≡◌, ◌≤◌, ℕ, List, [], Ok, Err, inl, inr, sym, ap, ◌∙◌, subst, arith}
 use Rattle.spec_command.specs.Commands.{Request}
 use Rattle.spec_command.specs.Request.{request}
-use Rattle.spec_run.specs.End.{End, Done, Ragged, Usage, Document as Refused, Question, ReadFault, WriteFault, Limit, NoMemory, Insns, Log, Input, IsUsage}
+use Rattle.spec_run.specs.End.{End, Done, Ragged, Usage, Document as Refused, Question, ReadFault, WriteFault, Limit, NoMemory, Insns, Log, Input, IsEarly, IsUsage}
 use Rattle.spec_run.specs.Commands.{Needs, opened, work_of}
 use Rattle.spec_run.specs.Ran.{Ran}
 use Rattle.spec_run.specs.Scene.{Scene}
@@ -10,7 +10,11 @@ use Rattle.spec_run.specs.Answers.{Untouched, WorkDecides, Means, Says, Performs
 use Rattle.mrs_query.specs.Opened.{Opens, ending}
 use Rattle.mrs_query.specs.Fulfilled.{Fulfils}
 use Rattle.mrs_query.specs.End.{end_of}
+use Rattle.mrs_query.specs.Runs.{told_as}
 use Rattle.mrs_query.specs.declared.status.Status.{Status}
+use Rattle.mrs_query.specs.declared.status.Status.TheVariants as status
+use Rattle.mrs_query.specs.declared.ended.Ended.{Ended}
+use Rattle.mrs_query.specs.declared.status.QuestionFault.TheVariants as question
 use Rattle.mrs_query.specs.declared.opening_error.OpeningError.{OpeningError}
 use Rattle.mrs_query.specs.declared.opening_error.OpeningError.TheVariants as error
 use Rattle.mrs_query.specs.declared.status.Which.TheVariants as which
@@ -19,12 +23,19 @@ module _ (s : Scene) (asked : Request) where
   -- ---- what a command ensures of what is asked for
 
   -- it is opened, and the command's work ends so
-  pub work_done : (found : Needs asked) (status : Status) → Opens (opened asked) s.shelf s.shelf_after (Ok found) → s.shelf_after.documents ≡ s.shelf.documents
-      → Ran s.input s.input_after s.out s.out_after (work_of asked found) (end_of status) → Fulfils asked s (Ok status)
-  work_done found status opens same ran = (
+  pub work_done : (found : Needs asked) (ended : Ended) → Opens (opened asked) s.shelf s.shelf_after (Ok found) → s.shelf_after.documents ≡ s.shelf.documents
+      → Ran s.input s.input_after s.out s.out_after (work_of asked found) (told_as ended) → Fulfils asked s (Ok ended)
+  work_done found ended opens same ran = (
     record { found = found; gives = opens.0; shelf = opens.1; ran = ran },
     record { documents = same; shelf = omega (arith, opens.1); input = ran.input_count; out = ran.out_count },
   )
+
+  -- the same with a status that has no reason
+  pub work_done_plainly : (found : Needs asked) (status : Status) (ended : Ended) → ended.status ≡ status → ended.reason.items ≡ [] → Opens (opened asked) s.shelf s.shelf_after (Ok found) → s.shelf_after.documents ≡ s.shelf.documents
+      → Ran s.input s.input_after s.out s.out_after (work_of asked found) (end_of status []) → Fulfils asked s (Ok ended)
+  work_done_plainly found status ended is none opens same ran =
+      let told : end_of status [] ≡ told_as ended = ap (λ s. end_of s []) (sym is) ∙ ap (end_of ended.status) (sym none) in
+      work_done found ended opens same (subst (Ran s.input s.input_after s.out s.out_after (work_of asked found)) told ran)
 
   -- it is not opened
   pub not_opened : (e : OpeningError) → Opens (opened asked) s.shelf s.shelf_after (Err e) → s.shelf_after.documents ≡ s.shelf.documents → s.shelf.faults ≤ s.shelf_after.faults → Untouched s → Fulfils asked s (Err e)
@@ -59,6 +70,19 @@ module _ (s : Scene) (asked : Request) where
   by_opening (error.Refused which fault) opens still = record { cause = opens; untouched = still }
   by_opening error.NoMemory opens still = record { shelf = opens; reached = inl still }
 
+-- a status comes before the stream with any reason
+pub early_told : (status : Status) (reason : List ℕ) → IsEarly (end_of status []) → IsEarly (end_of status reason)
+early_told status.Done reason early = absurd early
+early_told (status.Ragged rest) reason early = absurd early
+early_told (status.Usage place) reason early = tt
+early_told (status.Document which fault) reason early = tt
+early_told (status.Question question.NoLeaf) reason early = tt
+early_told (status.Question (question.Line line fault)) reason early = absurd early
+early_told (status.ReadFault which) reason early = early
+early_told status.WriteFault reason early = absurd early
+early_told (status.Limit which) reason early = early
+early_told status.NoMemory reason early = absurd early
+
 module _ (words : List (List ℕ)) (s : Scene) (asked : Request) (says : request words ≡ Ok asked) where
   -- a status says this of words that ask for something
   asked_says : (end : End) → Means s asked end → Says words s end
@@ -72,16 +96,27 @@ module _ (words : List (List ℕ)) (s : Scene) (asked : Request) (says : request
   asked_says (Limit which) h = record { asked = asked; says = says; means = h }
   asked_says NoMemory h = record { asked = asked; says = says; means = h }
 
-  pub performs_work : (status : Status) → Fulfils asked s (Ok status) → Performs words s (end_of status)
-  performs_work status h = record { says = asked_says (end_of status) (by_work s asked (end_of status) h.0); kept = h.1 }
+  pub performs_work : (ended : Ended) → Fulfils asked s (Ok ended) → Performs words s (told_as ended)
+  performs_work ended h = record { says = asked_says (told_as ended) (by_work s asked (told_as ended) h.0); kept = h.1 }
 
-  pub performs_opening : (e : OpeningError) (status : Status) → end_of status ≡ ending e → Fulfils asked s (Err e) → Performs words s (end_of status)
-  performs_opening e status is h = record { says = rw is (asked_says (ending e) (by_opening s asked e h.0 h.1)); kept = h.2 }
+  pub performs_opening : (e : OpeningError) (ended : Ended) → told_as ended ≡ ending e → Fulfils asked s (Err e) → Performs words s (told_as ended)
+  performs_opening e ended is h = record { says = rw is (asked_says (ending e) (by_opening s asked e h.0 h.1)); kept = h.2 }
 
   -- it does not end as refused words do
-  pub never_usage : (status : Status) → Fulfils asked s (Ok status) → IsUsage (end_of status) → ⊥
-  never_usage status h usage = usage_means (end_of status) (by_work s asked (end_of status) h.0) usage
+  pub never_usage : (ended : Ended) → Fulfils asked s (Ok ended) → IsUsage (end_of ended.status []) → ⊥
+  never_usage ended h usage = usage_means (told_as ended) (by_work s asked (told_as ended) h.0) (usage_told ended.status ended.reason.items usage)
     where
+      usage_told : (status : Status) (reason : List ℕ) → IsUsage (end_of status []) → IsUsage (end_of status reason)
+      usage_told (status.Usage place) reason usage = usage
+      usage_told status.Done reason usage = absurd usage
+      usage_told (status.Ragged rest) reason usage = absurd usage
+      usage_told (status.Document which fault) reason usage = absurd usage
+      usage_told (status.Question fault) reason usage = absurd usage
+      usage_told (status.ReadFault which) reason usage = absurd usage
+      usage_told status.WriteFault reason usage = absurd usage
+      usage_told (status.Limit which) reason usage = absurd usage
+      usage_told status.NoMemory reason usage = absurd usage
+
       usage_means : (end : End) → Means s asked end → IsUsage end → ⊥
       usage_means Done m usage = usage
       usage_means (Ragged rest) m usage = usage

@@ -1,4 +1,5 @@
 -- What the statuses of the code stand for.
+use Rattle.std.specs.Prelude.{ℕ, List}
 use Rattle.spec_run.specs.End as run
 use Rattle.mrs_query.specs.declared.status.Which.{Which}
 use Rattle.mrs_query.specs.declared.status.Which.TheVariants as which
@@ -20,16 +21,18 @@ fault_of fault.Json = run.Json
 fault_of (fault.Schema f) = run.Schema (schema.fault_of f)
 fault_of (fault.Log at) = run.Syntax at
 
-abbrev pub question_of : QuestionFault → run.QuestionFault
-question_of question.NoLeaf = run.NoLeaf
+-- with the text of the reason where a line is refused
+abbrev pub question_of : QuestionFault → List ℕ → run.QuestionFault
+question_of question.NoLeaf reason = run.NoLeaf
+question_of (question.Line line fault) reason = run.Line line fault.at reason
 
-abbrev pub end_of : Status → run.End
-end_of status.Done = run.Done
-end_of (status.Ragged rest) = run.Ragged rest
-end_of (status.Usage place) = run.Usage place
-end_of (status.Document which fault) = run.Document (which_of which) (fault_of fault)
-end_of (status.Question fault) = run.Question (question_of fault)
-end_of (status.ReadFault which) = run.ReadFault (which_of which)
-end_of status.WriteFault = run.WriteFault
-end_of (status.Limit which) = run.Limit (which_of which)
-end_of status.NoMemory = run.NoMemory
+abbrev pub end_of : Status → List ℕ → run.End
+end_of status.Done reason = run.Done
+end_of (status.Ragged rest) reason = run.Ragged rest
+end_of (status.Usage place) reason = run.Usage place
+end_of (status.Document which fault) reason = run.Document (which_of which) (fault_of fault)
+end_of (status.Question fault) reason = run.Question (question_of fault reason)
+end_of (status.ReadFault which) reason = run.ReadFault (which_of which)
+end_of status.WriteFault reason = run.WriteFault
+end_of (status.Limit which) reason = run.Limit (which_of which)
+end_of status.NoMemory reason = run.NoMemory

@@ -1,12 +1,11 @@
 pub mod End
-pub mod Ended
+pub mod Once
 pub mod Codes
-pub mod Machines
 pub mod Features
 pub mod Opened
 pub mod Fulfilled
-pub mod Down
-pub mod Pieces
 pub mod Texts
 pub mod Wrote
 pub mod Verdict
+pub mod Runs
+pub mod Assembled

@@ -1,18 +1,21 @@
 //! The commands: what each opens, and what it does by that.
-ghost use Rattle.std.specs.Prelude.{◌≡◌, MatchResult};
-ghost use Rattle.mrs_command.specs.Commands.{asked_of};
+ghost use Rattle.std.specs.Prelude.{◌≡◌, [], IfOk, MatchResult};
+ghost use Rattle.mrs_command.specs.Commands.{asked_of, IsLimited};
 ghost use Rattle.spec_run.specs.End.{IsEarly};
 ghost use Rattle.mrs_query.specs.End.{end_of};
 ghost use Rattle.mrs_query.specs.Fulfilled.{Fulfils};
+ghost use Rattle.mrs_query.specs.Runs.{HasReason};
 
+mod asm;
 mod leaf;
 mod list;
 mod proof;
 
-use crate::Status;
+use crate::commands::asm::assemble;
 use crate::commands::leaf::show_leaf;
-use crate::commands::list::list_stream;
+use crate::commands::list::show_words;
 use crate::commands::proof::check_log;
+use crate::ended::Ended;
 use crate::features::Features;
 use crate::opening::open_release;
 use crate::opening_error::OpeningError;
@@ -28,7 +31,8 @@ pub(crate) fn fulfil<V: Shelf, S: Source, K: Sink>(
     shelf: &mut V,
     input: &mut S,
     out: &mut K,
-) -> Result<Status, OpeningError>
+) -> Result<Ended, OpeningError>
+    requires { IsLimited asked }
     ensures fulfils { Fulfils (asked_of asked.entry) (record {
       shelf = V.shelving shelf.old;
       shelf_after = V.shelving shelf.new;
@@ -37,23 +41,37 @@ pub(crate) fn fulfil<V: Shelf, S: Source, K: Sink>(
       out = K.writing out.old;
       out_after = K.writing out.new;
     }) result }
-    ensures early { MatchResult result (λ status. IsEarly (end_of status) → (input.new ≡ input.old) × (out.new ≡ out.old))
+    ensures reason { IfOk result (λ ended. HasReason ended.status ended.reason.items) }
+    ensures early { MatchResult result (λ ended. IsEarly (end_of ended.status []) → (input.new ≡ input.old) × (out.new ≡ out.old))
         (λ _. (input.new ≡ input.old) × (out.new ≡ out.old)) }
 {
     match asked {
-        Request::List { release, on } => {
+        Request::List {
+            release,
+            bare,
+            max,
+            on,
+        } => {
             let features = Features::on(alloc, on)?;
             let opened = open_release(alloc, shelf, release, features)?;
-            Ok(list_stream(alloc, &opened, input, out))
+            let status = show_words(alloc, &opened, bare, max, input, out);
+            Ok(Ended::plainly(alloc, status))
+        }
+        Request::Asm { release, max, on } => {
+            let features = Features::on(alloc, on)?;
+            let opened = open_release(alloc, shelf, release, features)?;
+            Ok(assemble(alloc, &opened, max, input, out))
         }
         Request::Leaf { release, label } => {
             let features = Features::none(alloc)?;
             let opened = open_release(alloc, shelf, release, features)?;
-            Ok(show_leaf(alloc, &opened, label, out))
+            let status = show_leaf(alloc, &opened, label, out);
+            Ok(Ended::plainly(alloc, status))
         }
         Request::Proof { log } => {
             let opened = open_log(alloc, shelf, log)?;
-            Ok(check_log(alloc, &opened, out))
+            let status = check_log(alloc, &opened, out);
+            Ok(Ended::plainly(alloc, status))
         }
     }
 }

@@ -2,13 +2,9 @@
 #![tactic(auto)]
 
 mod commands;
-mod deciding;
+mod ended;
 mod features;
 mod fetching;
-mod hex;
-mod label;
-mod line;
-mod lister;
 mod message;
 mod opened;
 mod opened_log;

@@ -4,10 +4,12 @@ ghost use Rattle.spec_run.specs.End as run;
 ghost use Rattle.spec_run.specs.End.{message, why_text};
 ghost use Rattle.spec_run.specs.Scene.{TookText};
 ghost use Rattle.mrs_schema.specs.Faults as schema;
-ghost use Rattle.mrs_query.specs.End.{end_of, which_of, question_of};
+ghost use Rattle.mrs_query.specs.End.{end_of, which_of};
+ghost use Rattle.mrs_query.specs.Runs.{told_as};
 ghost use Rattle.mrs_query.specs.Texts.{joined};
 ghost use Rattle.mrs_query.specs.Wrote.{Wrote, member_of};
 
+use crate::ended::Ended;
 use crate::parts::write_parts;
 use crate::status::{DocFault, QuestionFault, Status, Which};
 use itoa::Buffer;
@@ -22,15 +24,6 @@ fn which_text(which: Which) -> &'static [u8]
         Which::Insns => b"insns",
         Which::Log => b"log",
         Which::Input => b"input",
-    }
-}
-
-/// Why a question has no answer.
-fn question_text(fault: QuestionFault) -> &'static [u8]
-    ensures { result.now ≡ run.question_text (question_of fault) }
-{
-    match fault {
-        QuestionFault::NoLeaf => b"leaf",
     }
 }
 
@@ -146,12 +139,30 @@ fn write_two<E: Sink>(err: &mut E, first: &[u8], second: &[u8]) -> Result<(), Fa
     write_parts(err, &[first, second, b"\n".as_slice()])
 }
 
-/// Writes the text of a status that has one.
-fn write_message<E: Sink>(err: &mut E, status: &Status) -> Result<(), Failed>
-    ensures text { Wrote (E.writing err.old) (E.writing err.new) (message (end_of status.now)) result }
-    ensures quiet { message (end_of status.now) ≡ [] → err.new ≡ err.old }
+/// Writes the text of a refused line: its number, the place of a byte in it, and the reason.
+fn write_line<E: Sink>(err: &mut E, line: u64, at: u32, reason: &[u8]) -> Result<(), Failed>
+    ensures { Wrote (E.writing err.old) (E.writing err.new) (message (run.Question (run.Line line at reason.now))) result }
 {
-    match status {
+    write_parts(
+        err,
+        &[
+            b"line ".as_slice(),
+            Buffer::new().format(line).as_bytes(),
+            b" ".as_slice(),
+            Buffer::new().format(at).as_bytes(),
+            b" ".as_slice(),
+            reason,
+            b"\n".as_slice(),
+        ],
+    )
+}
+
+/// Writes the text of an end that has one.
+fn write_message<E: Sink>(err: &mut E, ended: &Ended) -> Result<(), Failed>
+    ensures text { Wrote (E.writing err.old) (E.writing err.new) (message (told_as ended.now)) result }
+    ensures quiet { message (end_of ended.now.status []) ≡ [] → err.new ≡ err.old }
+{
+    match &ended.status {
         Status::Done | Status::Ragged { rest: _ } | Status::NoMemory => Ok(()),
         Status::Usage { place } => write_usage(err, *place),
         Status::Document {
@@ -166,19 +177,24 @@ fn write_message<E: Sink>(err: &mut E, status: &Status) -> Result<(), Failed>
             which,
             fault: DocFault::Log { at },
         } => write_syntax(err, *which, *at),
-        Status::Question { fault } => write_two(err, question_text(*fault), b""),
+        Status::Question {
+            fault: QuestionFault::NoLeaf,
+        } => write_two(err, b"leaf", b""),
+        Status::Question {
+            fault: QuestionFault::Line { line, fault },
+        } => write_line(err, *line, fault.at, &ended.reason),
         Status::ReadFault { which } => write_two(err, b"read ", which_text(*which)),
         Status::WriteFault => write_two(err, b"write out", b""),
         Status::Limit { which } => write_two(err, b"limit ", which_text(*which)),
     }
 }
 
-/// Writes the text of a status. A sink that fails has taken a part of it.
-pub(crate) fn tell<E: Sink>(err: &mut E, status: &Status)
+/// Writes the text of an end. A sink that fails has taken a part of it.
+pub(crate) fn tell<E: Sink>(err: &mut E, ended: &Ended)
     ensures text { TookText (E.writing err.old)
-        (E.writing err.new) (message (end_of status.now)) }
+        (E.writing err.new) (message (told_as ended.now)) }
     ensures count { (E.writing err.old).faults ≤ (E.writing err.new).faults }
-    ensures quiet { message (end_of status.now) ≡ [] → err.new ≡ err.old }
+    ensures quiet { message (end_of ended.now.status []) ≡ [] → err.new ≡ err.old }
 {
-    let _ = write_message(err, status);
+    let _ = write_message(err, ended);
 }

@@ -1,15 +1,9 @@
 //! What was opened for a command.
 
-ghost use Rattle.std.specs.Prelude.{◌≡◌, ◌++◌, ◌<◌, length, OnOk};
-ghost use Rattle.mrs_arena.specs.Placed.{AreHeld};
-ghost use Rattle.mrs_query.specs.Down.{names_down};
-
-use crate::deciding::decide;
 use ast_eval::Config;
-use bit_pattern::Pattern;
-use insn_decode::{Candidates, Decider, Found};
-use insn_tree::{LabelRef, LeafId, Tree};
-use mrs_arena::{Arena, NodeId};
+use insn_decode::Decider;
+use insn_tree::{LeafId, Tree};
+use list_words::{Lister, push_leaf};
 use mrs_names::Names;
 use std::alloc::AllocError;
 use std::marker::Model;
@@ -27,7 +21,7 @@ pub(crate) struct Opened {
 impl Model for Opened {
     ghost use Rattle.spec_decode.specs.Machine.{Machine};
     ghost use Rattle.mrs_query.specs.Codes.{machine_code};
-    ghost use Rattle.mrs_query.specs.Machines.{machine_of, AreOneRelease};
+    ghost use Rattle.list_words.specs.Machines.{machine_of, AreOneRelease};
 
     ghost Value = { Machine };
 
@@ -39,15 +33,12 @@ impl Model for Opened {
 }
 
 impl Opened {
-    ghost use Rattle.std.specs.Prelude.{◌≡◌, ◌<◌, ◌++◌, length, map, slice_index_or, option_map, OnOk, IfSome, All, [], ◌∷◌, flat_map};
-    ghost use Rattle.bit_pattern.specs.Views.{digits_of};
-    ghost use Rattle.spec_instructions.specs.Paths.{label, labelled_leaf};
-    ghost use Rattle.spec_instructions.specs.Fields.{merged};
-    ghost use Rattle.spec_decode.specs.Found.{found};
-    ghost use Rattle.insn_tree.specs.Trees.{label_text};
-    ghost use Rattle.insn_decode.specs.Judged.{IsFound};
-    ghost use Rattle.insn_decode.specs.Left.{candidate_of};
-    ghost use Rattle.mrs_query.specs.Machines.{machine_of, AreOneRelease};
+    ghost use Rattle.std.specs.Prelude.{◌≡◌, ◌<◌, ◌++◌, length, option_map, OnOk, IfSome};
+    ghost use Rattle.spec_instructions.specs.Paths.{labelled_leaf};
+    ghost use Rattle.spec_lines.specs.Streams.{form_by};
+    ghost use Rattle.spec_lines.specs.LeafFields.{whole_leaf};
+    ghost use Rattle.list_words.specs.Machines.{machine_of, AreOneRelease};
+    ghost use Rattle.list_words.specs.Listers.{IsOneRelease, machine, form};
 
     /// A tree with its decider, the names that it was made with, and a configuration of parameters with such names.
     pub fn new(names: Names, tree: Tree, decider: Decider, config: Config) -> Opened
@@ -62,12 +53,19 @@ impl Opened {
         }
     }
 
-    /// The label of a leaf.
-    pub fn label(&self, leaf: LeafId) -> LabelRef<'_>
-        requires { leaf.0 < length self.now.paths }
-        ensures { label_text result ≡ label self.now.paths leaf.0 }
+    /// By what its lines are printed and read, bare or full.
+    pub fn lister(&self, bare: bool) -> Lister<'_>
+        ensures release { IsOneRelease result }
+        ensures machine { machine result ≡ self.now }
+        ensures form { form result ≡ form_by bare }
     {
-        self.tree.label(leaf, &self.names)
+        Lister {
+            names: &self.names,
+            tree: &self.tree,
+            decider: &self.decider,
+            config: &self.config,
+            bare,
+        }
     }
 
     /// The leaf with that label.
@@ -78,54 +76,11 @@ impl Opened {
         self.tree.find_label(&self.names, text)
     }
 
-    /// Whether a word is found at no leaf, at one, or at several.
-    pub fn decide(&self, w: u32) -> Found
-        ensures { IsFound result (found self.now.paths self.now.configuration w) }
-    {
-        decide(&self.decider, &self.tree, w, &self.config)
-    }
-
-    /// The leaves at which a word is found, in order, each with its verdict.
-    pub fn candidates(&self, w: u32) -> Candidates<'_>
-        ensures { map candidate_of result ≡ found self.now.paths self.now.configuration w }
-    {
-        self.decider.candidates(&self.tree, w, &self.config)
-    }
-
-    /// The bits that the path of a leaf fixes, as 32 digits.
-    pub fn merged(&self, leaf: LeafId) -> Option<Pattern>
+    /// Appends all lines that are shown of a leaf.
+    pub fn push_leaf(&self, out: &mut Vec<u8>, leaf: LeafId) -> Result<(), AllocError>
         requires { leaf.0 < length self.now.paths }
-        ensures { option_map digits_of result ≡ merged (slice_index_or self.now.paths leaf.0 []) }
+        ensures { OnOk result (out.new.items ≡ out.old.items ++ whole_leaf self.now.paths leaf.0) }
     {
-        self.tree.merged(leaf)
+        push_leaf(out, &self.tree, &self.names, leaf)
     }
-
-    /// Appends the names along the path of a leaf from the root on, a space before each.
-    pub fn push_path(&self, out: &mut Vec<u8>, leaf: LeafId) -> Result<(), AllocError>
-        requires { leaf.0 < length self.now.paths }
-        ensures { OnOk result (out.new.items ≡ out.old.items ++ flat_map (λ own. 32 ∷ own.name) (slice_index_or self.now.paths leaf.0 [])) }
-    {
-        push_names(
-            out,
-            &self.names,
-            self.tree.arena(),
-            self.tree.leaf_node(leaf),
-        )
-    }
-}
-
-/// Appends the names of the nodes from the root down to a node, a space before each.
-fn push_names(out: &mut Vec<u8>, names: &Names, arena: &Arena, n: NodeId) -> Result<(), AllocError>
-    requires within { n.0 < length arena.now.nodes }
-    requires held { AreHeld names.now arena.now.nodes }
-    ensures { OnOk result (out.new.items ≡ out.old.items ++ names_down names.now arena.now.nodes n.0) }
-{
-    let node = arena.node(n);
-    match node.parent() {
-        Some(parent) => push_names(out, names, arena, parent)?,
-        None => {}
-    }
-    out.push(b' ')?;
-    out.extend_from_slice(names.text(node.name()).as_bytes())?;
-    Ok(())
 }

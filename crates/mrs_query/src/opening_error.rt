@@ -1,7 +1,8 @@
 //! Why what a command names is not opened.
-ghost use Rattle.std.specs.Prelude.{◌≡◌};
+ghost use Rattle.std.specs.Prelude.{◌≡◌, []};
 ghost use Rattle.mrs_query.specs.End.{end_of};
 ghost use Rattle.mrs_query.specs.Opened.{ending};
+ghost use Rattle.mrs_query.specs.Runs.{HasReason};
 
 use crate::{DocFault, Status, Which};
 use insn_tree::NoMemory;
@@ -22,7 +23,8 @@ pub(crate) enum OpeningError {
 impl OpeningError {
     /// How the run ends then.
     pub(crate) fn status(self) -> Status
-        ensures { end_of result ≡ ending self }
+        ensures end { end_of result [] ≡ ending self }
+        ensures plain { HasReason result [] }
     {
         match self {
             OpeningError::NotRead { which } => Status::ReadFault { which },

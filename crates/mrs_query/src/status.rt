@@ -1,8 +1,9 @@
 //! How a run ends.
-ghost use Rattle.std.specs.Prelude.{◌≡◌};
+ghost use Rattle.std.specs.Prelude.{◌≡◌, ℕ, List};
 ghost use Rattle.spec_run.specs.End.{exit_number};
 ghost use Rattle.mrs_query.specs.End.{end_of};
 
+use list_words::LineFault;
 use mrs_schema::SchemaFault;
 
 /// What a status names: the Instructions document, the log, or the stream.
@@ -29,6 +30,8 @@ pub enum DocFault {
 pub enum QuestionFault {
     /// No leaf has the label.
     NoLeaf,
+    /// The line of that number, counted from 1, is refused.
+    Line { line: u64, fault: LineFault },
 }
 
 /// How a run ends.
@@ -57,7 +60,7 @@ pub enum Status {
 impl Status {
     /// The number with which the program ends.
     pub fn exit_number(&self) -> u8
-        ensures { result ≡ exit_number (end_of self.now) }
+        ensures { (reason : List ℕ) → result ≡ exit_number (end_of self.now reason) }
     {
         match self {
             Status::Done => 0,

@@ -1,11 +1,13 @@
 //! The top call.
 ghost use Rattle.std.specs.Prelude.{◌≡◌, map, string_bytes, []};
 ghost use Rattle.spec_run.specs.End.{message, IsEarly, IsUsage};
-ghost use Rattle.spec_run.specs.Answers.{Performs, Answers};
+ghost use Rattle.spec_run.specs.Answers.{Performs};
 ghost use Rattle.mrs_query.specs.End.{end_of};
+ghost use Rattle.mrs_query.specs.Runs.{HasReason, told_as, Runs};
 
 use crate::Status;
 use crate::commands::fulfil;
+use crate::ended::Ended;
 use crate::message::tell;
 use mrs_command::read_request;
 use mrs_io::{Shelf, Sink, Source};
@@ -20,7 +22,7 @@ fn perform<V: Shelf, S: Source, K: Sink>(
     shelf: &mut V,
     input: &mut S,
     out: &mut K,
-) -> Status
+) -> Ended
     ensures performs { Performs (map string_bytes words.now) (record {
       shelf = V.shelving shelf.old;
       shelf_after = V.shelving shelf.new;
@@ -28,17 +30,18 @@ fn perform<V: Shelf, S: Source, K: Sink>(
       input_after = S.reading input.new;
       out = K.writing out.old;
       out_after = K.writing out.new;
-    }) (end_of result) }
-    ensures early { IsEarly (end_of result) → (input.new ≡ input.old) × (out.new ≡ out.old) }
-    ensures misused { IsUsage (end_of result) → shelf.new ≡ shelf.old }
+    }) (told_as result) }
+    ensures reason { HasReason result.status result.reason.items }
+    ensures early { IsEarly (end_of result.status []) → (input.new ≡ input.old) × (out.new ≡ out.old) }
+    ensures misused { IsUsage (end_of result.status []) → shelf.new ≡ shelf.old }
 {
     let asked = match read_request(words) {
         Ok(asked) => asked,
-        Err(bad) => return Status::Usage { place: bad.place },
+        Err(bad) => return Ended::plainly(alloc, Status::Usage { place: bad.place }),
     };
     match fulfil(alloc, asked, shelf, input, out) {
-        Ok(status) => status,
-        Err(error) => error.status(),
+        Ok(ended) => ended,
+        Err(error) => Ended::plainly(alloc, error.status()),
     }
 }
 
@@ -46,7 +49,7 @@ fn perform<V: Shelf, S: Source, K: Sink>(
 /// and the stream from `input`, writes lines to `out` and one line on what went wrong to `err`, and answers how the
 /// run ended. Words of Arm A64 are 32 bits wide and little-endian.
 ///
-/// The status has its cause in `Answers`: the first of the words, the document, the label and the stream that stops the run
+/// The status has its cause in `Runs`: the first of the words, the document, the label and the stream that stops the run
 /// decides. `NoMemory` may come in place of any answer but `Usage`.
 pub fn run<R: Threads + Sync, V: Shelf, S: Source, K: Sink, E: Sink>(
     rt: &R,
@@ -57,22 +60,22 @@ pub fn run<R: Threads + Sync, V: Shelf, S: Source, K: Sink, E: Sink>(
     out: &mut K,
     err: &mut E,
 ) -> Status
-    ensures answers { Answers (map string_bytes words.now) (record {
+    ensures answers { Runs (map string_bytes words.now) (record {
       shelf = V.shelving shelf.old;
       shelf_after = V.shelving shelf.new;
       input = S.reading input.old;
       input_after = S.reading input.new;
       out = K.writing out.old;
       out_after = K.writing out.new;
-    }) (E.writing err.old) (E.writing err.new) (end_of result) }
+    }) (E.writing err.old) (E.writing err.new) result }
     // Before the stream nothing is read from it and nothing goes out; refused words do not touch the shelf.
-    ensures early { IsEarly (end_of result) → (input.new ≡ input.old) × (out.new ≡ out.old) }
-    ensures misused { IsUsage (end_of result) → shelf.new ≡ shelf.old }
+    ensures early { IsEarly (end_of result []) → (input.new ≡ input.old) × (out.new ≡ out.old) }
+    ensures misused { IsUsage (end_of result []) → shelf.new ≡ shelf.old }
     // Where there is nothing to say, `err` is not touched.
-    ensures quiet { message (end_of result) ≡ [] → err.new ≡ err.old }
+    ensures quiet { message (end_of result []) ≡ [] → err.new ≡ err.old }
 {
     let _ = rt;
-    let status = perform(alloc, words, shelf, input, out);
-    tell(err, &status);
-    status
+    let ended = perform(alloc, words, shelf, input, out);
+    tell(err, &ended);
+    ended.status
 }

@@ -1,10 +1,8 @@
--- Streams in pieces: the words, the rest and the lines of two parts in a row, the first of whole words.
-use Rattle.std.proofs.Common.{◌≡◌, ℕ, suc, ◌+◌, ◌-◌, ◌*◌, ◌%◌, ◌<◌, ◌≤◌, List, [], ◌∷◌, ◌++◌, length, get_or, take, drop, refl, sym, ap, arith, append_assoc, length-append, add-zero}
+-- Streams in pieces: the words and the rest of two parts in a row, the first of whole words.
+use Rattle.std.proofs.Common.{◌≡◌, ℕ, suc, ◌+◌, ◌-◌, ◌*◌, ◌%◌, ◌<◌, ◌≤◌, List, [], ◌∷◌, ◌++◌, length, get_or, take, drop, refl, ap, arith}
 use Rattle.std.proofs.lemmas.List.{take_rest}
 use Rattle.std.specs.Int.{w32, from_le_bytes}
-use Rattle.spec_decode.specs.Machine.{Machine}
-use Rattle.spec_lines.specs.Line.{line}
-use Rattle.spec_lines.specs.Listing.{words_in, rest_in, listing, rest_line, stream_lines}
+use Rattle.spec_lines.specs.Words.{words_in, rest_in}
 
 -- a list of whole words
 pub record IsWhole (xs : List ℕ) : Type 0 where
@@ -50,17 +48,6 @@ length_rest_in_lt (a ∷ b ∷ []) = omega arith
 length_rest_in_lt (a ∷ b ∷ c ∷ []) = omega arith
 length_rest_in_lt (a ∷ b ∷ c ∷ d ∷ xs) = length_rest_in_lt xs
 
-pub listing-append : (machine : Machine) (offset : ℕ) (ws vs : List ℕ) → listing machine offset (ws ++ vs) ≡ listing machine offset ws ++ listing machine (offset + 4 * length ws) vs
-listing-append machine offset [] vs = rw add-zero
-listing-append machine offset (w ∷ ws) vs =
-    let e : offset + 4 + 4 * length ws ≡ offset + 4 * suc (length ws) = omega arith in
-    rw (listing-append machine (offset + 4) ws vs, e) (sym (append_assoc (line machine offset w) _ _))
-
--- the lines of two parts, the first of whole words
-pub listing-words : (machine : Machine) (offset : ℕ) (xs ys : List ℕ) → IsWhole xs
-    → listing machine offset (words_in (xs ++ ys)) ≡ listing machine offset (words_in xs) ++ listing machine (offset + length xs) (words_in ys)
-listing-words machine offset xs ys h = rw (words_in-append xs ys h, listing-append machine offset (words_in xs) (words_in ys), length-words_in xs h)
-
 -- the first word of four bytes and more, by their places
 pub words_in-first : (xs : List ℕ) → 4 ≤ length xs → words_in xs ≡ from_le_bytes w32 (get_or xs 0 0 ∷ get_or xs 1 0 ∷ get_or xs 2 0 ∷ get_or xs 3 0 ∷ []) ∷ words_in (drop 4 xs)
 words_in-first [] h = absurd (omega arith)
@@ -90,14 +77,6 @@ rest_in-short (a ∷ []) h = refl
 rest_in-short (a ∷ b ∷ []) h = refl
 rest_in-short (a ∷ b ∷ c ∷ []) h = refl
 rest_in-short (a ∷ b ∷ c ∷ d ∷ xs) h = absurd (omega arith)
-
--- all lines of a stream whose front is whole words
-pub stream_lines-append : (machine : Machine) (xs ys : List ℕ) → IsWhole xs
-    → stream_lines machine (xs ++ ys) ≡ listing machine 0 (words_in xs) ++ (listing machine (length xs) (words_in ys) ++ rest_line (length xs + 4 * length (words_in ys)) (rest_in ys))
-stream_lines-append machine xs ys h =
-    let z : 0 + length xs ≡ length xs = omega arith in
-    let n : 4 * length (words_in xs ++ words_in ys) ≡ length xs + 4 * length (words_in ys) = omega (arith, length-append (words_in xs) (words_in ys), length-words_in xs h) in
-    rw (listing-words machine 0 xs ys h, words_in-append xs ys h, rest_in-append xs ys h, n, z) (append_assoc (listing machine 0 (words_in xs)) _ _)
 
 -- the rest stands behind as many bytes as make whole words
 pub rest_in-drop : (xs : List ℕ) → drop (length xs - length xs % 4) xs ≡ rest_in xs

@@ -8,8 +8,7 @@ use Rattle.spec_instructions.specs.Tree.{Own, Node, node, no_nodes, more, bare}
 use Rattle.spec_expressions.specs.Expression.{Name}
 use Rattle.spec_instructions.specs.Paths.{paths_from}
 use Rattle.spec_decode.specs.Machine.{Machine}
-use Rattle.spec_lines.specs.Line.{line}
-use Rattle.spec_lines.specs.Listing.{stream_lines}
+use Rattle.spec_lines.specs.FullLine.{full_line}
 use Rattle.spec_lines.specs.Leaf.{leaf_text}
 
 -- bits without a name, none of them should-be
@@ -31,30 +30,14 @@ machine = record {
       ∷ [];
 }
 
-one_leaf : line machine 0 0x91000420 ≡ codes "00000000 91000420 one ADD_64_addsub_imm\n"
-unfolding digits
-one_leaf = refl
-
-namesakes_differ : line machine 4 0x0800_0000 ≡ codes "00000004 08000000 one DUP#1\n"
-unfolding digits
-namesakes_differ = refl
-
-two_leaves : line machine 0x1_0000_0000 0 ≡ codes "100000000 00000000 many DUP#1 yes DUP#2 yes\n"
+two_leaves : full_line machine 0x1_0000_0000 0 ≡ codes "100000000 00000000 many DUP#1 yes DUP#2 yes\n"
 unfolding digits
 two_leaves = refl
 
--- the leaf's feature is not known
-one_open_leaf : line machine 0 0xf000_0000 ≡ codes "00000000 f0000000 open FEATURED\n"
-unfolding digits
-one_open_leaf = refl
-
-one_of_two_open : line machine 0 0xffff_ffff ≡ codes "00000000 ffffffff many FEATURED open ALL_ONES yes\n"
+-- the feature of one of them is not known
+one_of_two_open : full_line machine 0 0xffff_ffff ≡ codes "00000000 ffffffff many FEATURED open ALL_ONES yes\n"
 unfolding digits
 one_of_two_open = refl
-
-ragged : stream_lines machine (0x20 ∷ 0x04 ∷ 0x00 ∷ 0x91 ∷ 0xc0 ∷ 0x03 ∷ 0x5f ∷ []) ≡ codes "00000000 91000420 one ADD_64_addsub_imm\n" ++ codes "00000004 rest c0035f\n"
-unfolding digits
-ragged = refl
 
 -- the set `A64` whose children are two leaves of one name, all without items
 abbrev namesakes : Node

@@ -1,6 +1,4 @@
 pub mod Hex
-pub mod Line
-pub mod Listing
 pub mod Leaf
 pub mod LogLine
 pub mod Pairs

@@ -2,8 +2,9 @@
 ghost use Rattle.std.specs.Prelude.{◌≡◌, ◌++◌, ◌∷◌, [], OnOk, decimal};
 ghost use Rattle.spec_run.specs.End.{IsEarly};
 ghost use Rattle.spec_run.specs.Logs.{log_outcome};
-ghost use Rattle.mrs_query.specs.Ended.{Ended};
+ghost use Rattle.mrs_query.specs.Once.{EndsOnce};
 ghost use Rattle.mrs_query.specs.End.{end_of};
+ghost use Rattle.mrs_query.specs.Runs.{HasReason};
 ghost use Rattle.mrs_query.specs.Verdict.{line_by};
 
 use crate::Status;
@@ -15,8 +16,9 @@ use std::alloc::{AllocError, Global};
 
 /// Checks a log, and writes the line that says whether it refutes its clauses, or where it fails.
 pub(crate) fn check_log<K: Sink>(alloc: Global, opened: &OpenedLog, out: &mut K) -> Status
-    ensures ended { Ended (K.writing out.old) (K.writing out.new) (log_outcome opened.now) (end_of result) }
-    ensures early { IsEarly (end_of result) → out.new ≡ out.old }
+    ensures ended { EndsOnce (K.writing out.old) (K.writing out.new) (log_outcome opened.now) (end_of result []) }
+    ensures plain { HasReason result [] }
+    ensures early { IsEarly (end_of result []) → out.new ≡ out.old }
 {
     let Ok(verdict) = opened.check(alloc) else {
         return Status::NoMemory;

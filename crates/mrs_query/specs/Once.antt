@@ -5,5 +5,5 @@ use Rattle.spec_run.specs.Work.{Outcome, Once}
 use Rattle.spec_run.specs.Ran.{Ran}
 
 -- whatever source stands by, and is left as it is
-abbrev pub Ended : Writing → Writing → Outcome → End → Type 0
-Ended out out_after o end = (input : Reading) → Ran input input out out_after (Once o) end
+abbrev pub EndsOnce : Writing → Writing → Outcome → End → Type 0
+EndsOnce out out_after o end = (input : Reading) → Ran input input out out_after (Once o) end

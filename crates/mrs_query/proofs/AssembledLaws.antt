@@ -1,0 +1,78 @@
+-- How an assembly ended, as it is told.
+use Rattle.std.proofs.Common.{◌≡◌, ◌∙◌, sym, ap, subst, refl, ℕ, List, [], length, take, inl, inr, arith}
+use Rattle.std.proofs.Math.Seq.{take-length}
+use Rattle.spec_io.specs.States.{Reading, Writing}
+use Rattle.spec_run.specs.End as run
+use Rattle.spec_run.specs.Work.{Over, Reads}
+use Rattle.spec_run.specs.Assembling.{asm_work}
+use Rattle.spec_run.specs.Ran.{Ran}
+use Rattle.spec_run.specs.Scene.{Took}
+use Rattle.list_words.specs.Listers.{machine}
+use Rattle.list_words.specs.declared.lister.Lister.{Lister}
+use Rattle.asm_stream.specs.declared.ended.Ended as asm
+use Rattle.asm_stream.specs.declared.ended.Ended.TheVariants as how
+use Rattle.asm_stream.specs.Endings.{refusal}
+use Rattle.asm_stream.specs.Assembles.{Assembles}
+use Rattle.spec_lines.specs.Assembly.{BadLine}
+use Rattle.spec_lines.specs.Reasons.{reason}
+use Rattle.mrs_query.specs.declared.status.Status.{Status}
+use Rattle.mrs_query.specs.declared.status.Status.TheVariants as status
+use Rattle.mrs_query.specs.declared.status.Which.TheVariants as which
+use Rattle.mrs_query.specs.declared.ended.Ended.{Ended}
+use Rattle.mrs_query.specs.End.{end_of}
+use Rattle.mrs_query.specs.Runs.{HasReason, told_as}
+use Rattle.mrs_query.specs.Assembled.{IsPlainly, TellsReason, TellsAssembly}
+
+-- the end of a status without a reason
+pub plainly_told : (status : Status) (ended : Ended) → IsPlainly status ended → told_as ended ≡ end_of status []
+plainly_told status ended is = ap (end_of ended.status) is.none ∙ ap (λ s. end_of s []) is.status_is
+
+-- a status that is no refused line has an empty reason
+pub plainly_has : (status : Status) (ended : Ended) → HasReason status [] → IsPlainly status ended → HasReason ended.status ended.reason.items
+plainly_has status ended empty is = subst (HasReason ended.status) (sym is.none) (subst (λ s. HasReason s []) (sym is.status_is) empty)
+
+-- where all went out, memory may have run out too
+unmemoried : (r0 r1 : Reading) (w0 w1 : Writing) (over : Over) (fault : run.QuestionFault) → Ran r0 r1 w0 w1 (Reads over) (run.Question fault) → Ran r0 r1 w0 w1 (Reads over) run.NoMemory
+unmemoried r0 r1 w0 w1 over fault h =
+    let out : List ℕ = (over.whole h.meaning.0).out in record {
+      meaning = (h.meaning.0, h.meaning.1, (length out, omega arith, subst (Took w0 w1) (sym (take-length out)) h.meaning.2.1));
+      reading = h.reading;
+      input_count = h.input_count;
+      out_count = h.out_count;
+    }
+
+module _ (lister : Lister) (limit : ℕ) (r0 r1 : Reading) (w0 w1 : Writing) (ended : Ended) where
+  abbrev RanAs : run.End → Type 0
+  RanAs end = Ran r0 r1 w0 w1 (Reads (asm_work (machine lister) limit)) end
+
+  plain_ran : (status : Status) (end : run.End) → IsPlainly status ended → end ≡ end_of status [] → RanAs end → RanAs (told_as ended)
+  plain_ran status end plain is ran = subst RanAs (is ∙ sym (plainly_told status ended plain)) ran
+
+  -- a line that is refused, by the number and the fault that are told of it
+  line_is : (number : ℕ) (bad : BadLine) → bad.number ≡ number → refusal lister bad ≡ run.Question (run.Line number bad.fault.at (reason (machine lister).paths bad.fault.why))
+  line_is number bad is = ap (λ n. run.Question (run.Line n bad.fault.at (reason (machine lister).paths bad.fault.why))) is
+
+  pub assembly_ran : (how : asm.Ended) → Assembles lister limit r0 r1 w0 w1 how → TellsAssembly lister how ended → RanAs (told_as ended)
+  assembly_ran how.Done h t = plain_ran status.Done h.end t h.is h.ran
+  assembly_ran (how.Line number fault) h t =
+      let bad = h.is.0 in
+      let ran : RanAs (refusal lister bad) = subst RanAs h.is.2 h.ran in
+      elim (t bad.fault h.is.1.fault_is) [
+        | inl none ↦ plain_ran status.NoMemory run.NoMemory none refl (unmemoried r0 r1 w0 w1 (asm_work (machine lister) limit) _ ran)
+        | inr told ↦ subst RanAs (line_is number bad h.is.1.number_is ∙ sym told.is) ran
+      ]
+  assembly_ran how.ReadFault h t = plain_ran (status.ReadFault which.Input) h.end t h.is h.ran
+  assembly_ran how.WriteFault h t = plain_ran status.WriteFault h.end t h.is h.ran
+  assembly_ran how.Limit h t = plain_ran (status.Limit which.Input) h.end t h.is h.ran
+  assembly_ran how.NoMemory h t = plain_ran status.NoMemory h.end t h.is h.ran
+
+  pub assembly_reason : (how : asm.Ended) → Assembles lister limit r0 r1 w0 w1 how → TellsAssembly lister how ended → HasReason ended.status ended.reason.items
+  assembly_reason how.Done h t = plainly_has status.Done ended refl t
+  assembly_reason (how.Line number fault) h t = elim (t h.is.0.fault h.is.1.fault_is) [
+    | inl none ↦ plainly_has status.NoMemory ended refl none
+    | inr told ↦ told.has
+  ]
+  assembly_reason how.ReadFault h t = plainly_has (status.ReadFault which.Input) ended refl t
+  assembly_reason how.WriteFault h t = plainly_has status.WriteFault ended refl t
+  assembly_reason how.Limit h t = plainly_has (status.Limit which.Input) ended refl t
+  assembly_reason how.NoMemory h t = plainly_has status.NoMemory ended refl t

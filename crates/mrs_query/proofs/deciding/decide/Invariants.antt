@@ -1,4 +1,0 @@
-use Rattle.mrs_query.proofs.deciding.decide.Given as goal
-
-abbrev pub ghosts-decide_from : goal.ghosts-decide_from
-ghosts-decide_from a = record { name = a.blank.name; parts = a.blank.parts }

@@ -1,6 +1,0 @@
-use Rattle.std.proofs.Common.{◌%◌, arith}
-use Rattle.mrs_query.proofs.HexSteps.{digit_in_place}
-use Rattle.mrs_query.proofs.hex.last_digit.Goals as goal
-
-pub returns : goal.returns
-returns c = digit_in_place (c.args.n % 16) (omega arith)

@@ -1,4 +1,0 @@
-use Rattle.mrs_query.proofs.opened.+push_names.Given as goal
-
-abbrev pub decreases-push_names : goal.decreases-push_names
-decreases-push_names l = l.n.0

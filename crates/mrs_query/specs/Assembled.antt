@@ -1,0 +1,38 @@
+-- How the end of an assembly is told, with the reason where a line is refused.
+use Rattle.std.specs.Prelude.{◌≡◌, ◌⊎◌, ℕ, []}
+use Rattle.spec_run.specs.End as run
+use Rattle.spec_lines.specs.LineFault as spec
+use Rattle.spec_lines.specs.Reasons.{reason}
+use Rattle.list_words.specs.Faults.{IsFault}
+use Rattle.list_words.specs.Listers.{machine}
+use Rattle.list_words.specs.declared.lister.Lister.{Lister}
+use Rattle.list_words.specs.declared.line_fault.LineFault.{LineFault}
+use Rattle.asm_stream.specs.declared.ended.Ended as asm
+use Rattle.asm_stream.specs.declared.ended.Ended.TheVariants as how
+use Rattle.mrs_query.specs.declared.status.Status.{Status}
+use Rattle.mrs_query.specs.declared.status.Status.TheVariants as status
+use Rattle.mrs_query.specs.declared.status.Which.TheVariants as which
+use Rattle.mrs_query.specs.declared.ended.Ended.{Ended}
+use Rattle.mrs_query.specs.Runs.{HasReason, told_as}
+
+-- a status that has no reason
+pub record IsPlainly (status : Status) (ended : Ended) : Type 0 where
+  pub status_is : ended.status ≡ status
+  pub none : ended.reason.items ≡ []
+
+-- a line of that number is refused with the text of its reason
+pub record TellsReason (lister : Lister) (number : ℕ) (ended : Ended) (told : spec.LineFault) : Type 0 where
+  pub is : told_as ended ≡ run.Question (run.Line number told.at (reason (machine lister).paths told.why))
+  pub has : HasReason ended.status ended.reason.items
+
+-- so it is told, or memory ran out
+abbrev pub TellsLine : Lister → ℕ → LineFault → Ended → Type 0
+TellsLine lister number fault ended = (told : spec.LineFault) → IsFault lister.names.now lister.tree.now fault told → IsPlainly status.NoMemory ended ⊎ TellsReason lister number ended told
+
+abbrev pub TellsAssembly : Lister → asm.Ended → Ended → Type 0
+TellsAssembly lister how.Done ended = IsPlainly status.Done ended
+TellsAssembly lister (how.Line number fault) ended = TellsLine lister number fault ended
+TellsAssembly lister how.ReadFault ended = IsPlainly (status.ReadFault which.Input) ended
+TellsAssembly lister how.WriteFault ended = IsPlainly status.WriteFault ended
+TellsAssembly lister how.Limit ended = IsPlainly (status.Limit which.Input) ended
+TellsAssembly lister how.NoMemory ended = IsPlainly status.NoMemory ended
