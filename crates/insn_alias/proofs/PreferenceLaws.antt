@@ -1,5 +1,5 @@
 -- What an expression of a node is worth, as it is read.
-use Rattle.std.proofs.Common.{◌≡◌, ◌∙◌, sym, ap, subst, ℕ, zero, suc, ◌<◌, Bool, true, false, ◌&&◌, List, [], ◌∷◌, All, Option, Some, None, length, option_map, slice_get}
+use Rattle.std.proofs.Common.{◌≡◌, ◌∙◌, sym, ap, subst, ℕ, zero, suc, false, List, [], ◌∷◌, All, Option, Some, None, option_map, slice_get}
 use Rattle.std.proofs.lemmas.Option.{get_or_from_slice_get, slice_get_within}
 use Rattle.spec_expressions.specs.Expression.{ExprOf}
 use Rattle.spec_expressions.specs.Truth.{Truth}
@@ -8,7 +8,7 @@ use Rattle.spec_instructions.specs.Tree.{Own}
 use Rattle.spec_instructions.specs.Fields.{fields}
 use Rattle.spec_decode.specs.Preferred.{is_yes, prefers}
 use Rattle.mrs_arena.specs.Flat.{FlatItem, FlatNode}
-use Rattle.mrs_arena.specs.Placed.{text_of, expr_of, own_of_flat, own_at, path_to, IsHeldItem, IsHeldNode, IsHeldExpr, AreHeld}
+use Rattle.mrs_arena.specs.Placed.{text_of, expr_of, own_of_flat, own_at, path_to, IsHeldItem, IsHeldNode, IsHeldExpr}
 use Rattle.ast_eval.specs.Choices.{Choices, configuration_of}
 use Rattle.ast_eval.specs.Fields.{items_to, fields_by}
 use Rattle.ast_eval.specs.Worth.{IsTruth}

@@ -1,12 +1,11 @@
 -- The walk along the aliases of a leaf.
-use Rattle.std.proofs.Common.{◌≡◌, ◌∙◌, sym, ap, refl, subst, ℕ, ◌+◌, ◌-◌, ◌<◌, ◌≤◌, ◌==◌, Bool, true, false, ◌&&◌, cond, List, [], ◌∷◌, length, drop, get_or, Option, Some, None, IfSome, option_map, arith}
+use Rattle.std.proofs.Common.{◌≡◌, ◌∙◌, sym, ap, refl, subst, ℕ, ◌+◌, ◌-◌, ◌<◌, ◌==◌, Bool, true, false, ◌&&◌, cond, List, [], ◌∷◌, length, drop, get_or, Option, Some, None, IfSome, option_map, arith}
 use Rattle.std.specs.List.{position_from}
 use Rattle.std.proofs.lemmas.Bool.Decides.{Decides-eqb}
 use Rattle.std.proofs.lemmas.Option.{get_or_from_slice_get}
 use Rattle.spec_expressions.specs.Scope.{Configuration}
 use Rattle.spec_instructions.specs.Aliases.{AliasPath}
 use Rattle.spec_decode.specs.Preferred.{is_preferable, preferred}
-use Rattle.mrs_arena.specs.Flat.{FlatNode}
 use Rattle.mrs_arena.specs.Placed.{text_of, aliases_of}
 use Rattle.mrs_arena.proofs.TreePaths.{get_next, drop_next}
 use Rattle.ast_eval.specs.Choices.{Choices, configuration_of}

@@ -1,4 +1,4 @@
-use Rattle.std.proofs.Common.{◌∙◌, ◌<◌, sym, subst, length, Option, Some}
+use Rattle.std.proofs.Common.{◌∙◌, ◌<◌, sym, subst, length, Option}
 use Rattle.mrs_arena.specs.Placed.{aliases_of}
 use Rattle.insn_tree.specs.declared.leaf_id.AliasId.{AliasId}
 use Rattle.insn_alias.proofs.WalkLaws.{walk_begins, walk_ends, walk_stops, walk_on, next_within, left, fewer_left}

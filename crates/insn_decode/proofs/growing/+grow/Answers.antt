@@ -3,9 +3,7 @@ use Rattle.std.proofs.lemmas.Result.{on_ok_weaker}
 use Rattle.insn_decode.specs.declared.node.Node.{Node}
 use Rattle.insn_decode.specs.declared.node.Node.TheVariants.{Test}
 use Rattle.insn_decode.specs.declared.member.Member.{Member}
-use Rattle.insn_decode.specs.Members.{encoding_of}
-use Rattle.insn_decode.specs.Decides.{most_nodes}
-use Rattle.insn_decode.proofs.SplitLaws.{AreSides, sides_of}
+use Rattle.insn_decode.proofs.SplitLaws.{sides_of}
 use Rattle.insn_decode.proofs.GrowLaws.{test_pushed}
 use Rattle.insn_decode.proofs.growing.+grow.Goals as goal
 

@@ -1,4 +1,4 @@
-use Rattle.std.proofs.Common.{◌≡◌, ◌∙◌, sym, ap, subst, ℕ, [], false, true, arith}
+use Rattle.std.proofs.Common.{◌∙◌, sym, ap, ℕ, [], false, true, arith}
 use Rattle.spec_decode.specs.Verdict.{conditions_from}
 use Rattle.mrs_arena.specs.Placed.{text_of}
 use Rattle.ast_eval.specs.Choices.{configuration_of}
