@@ -1,5 +1,5 @@
 -- What the table of aliases says of them.
-use Rattle.std.proofs.Common.{◌≡◌, ◌∙◌, sym, ap, subst, ℕ, ◌+◌, ◌<◌, ◌≤◌, ◌==◌, List, length, map, get_or, slice_get, Option, Some, None, IfSome, option_map, drop, arith}
+use Rattle.std.proofs.Common.{◌≡◌, ◌∙◌, sym, ap, subst, ℕ, ◌+◌, ◌<◌, ◌==◌, List, length, map, get_or, slice_get, Option, Some, None, IfSome, option_map, drop, arith}
 use Rattle.std.specs.Prelude.{slice_index_or}
 use Rattle.std.specs.List.{list_all}
 use Rattle.std.proofs.lemmas.List.{length-map, length-drop, get_or-map, get_or_default}
@@ -10,13 +10,13 @@ use Rattle.bit_pattern.specs.declared.pattern.Pattern.{Pattern}
 use Rattle.bit_pattern.specs.Views.{digits_of}
 use Rattle.mrs_arena.specs.Flat.{FlatNode}
 use Rattle.mrs_arena.specs.Nodes.{parents_of}
-use Rattle.mrs_arena.specs.Placed.{own_at, aliases_of, leaves_of}
+use Rattle.mrs_arena.specs.Placed.{aliases_of, leaves_of}
 use Rattle.insn_tree.specs.declared.leaf_id.LeafId.{LeafId}
 use Rattle.insn_tree.specs.declared.leaf_id.AliasId.{AliasId}
 use Rattle.insn_tree.specs.declared.alias_table.AliasTable.{AliasTable}
 use Rattle.insn_tree.specs.Leaves.{leaf_above}
 use Rattle.insn_tree.specs.Aliases.{alias_by, aliases_by, no_alias, alias_from}
-use Rattle.insn_tree.specs.Chains.{alias_leaves, next_from, number_at}
+use Rattle.insn_tree.specs.Chains.{alias_leaves, next_from}
 use Rattle.insn_tree.specs.Words.{own_merged_at}
 use Rattle.insn_tree.specs.Trees.{IsLeafAbove}
 use Rattle.insn_tree.specs.Kept.{AreAliases}

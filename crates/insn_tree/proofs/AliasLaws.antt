@@ -1,19 +1,17 @@
 -- The aliases of an arena: their paths, what their own items fix, and the leaves above them.
-use Rattle.std.proofs.Common.{◌≡◌, ◌∙◌, sym, ap, refl, subst, ℕ, zero, suc, ◌+◌, ◌-◌, ◌<◌, ◌≤◌, ◌==◌, Bool, true, false, cond, List, [], ◌∷◌, ◌++◌, length, map, filter, reverse, drop, get_or, slice_get, Option, Some, None, IfSome, option_map, unwrap_or, replicate, All, arith, length-append, ◌⊎◌, inl, inr}
+use Rattle.std.proofs.Common.{◌≡◌, ◌∙◌, sym, ap, refl, subst, ℕ, zero, suc, ◌+◌, ◌-◌, ◌<◌, ◌≤◌, ◌==◌, Bool, true, false, cond, List, [], ◌∷◌, ◌++◌, length, map, filter, reverse, drop, get_or, slice_get, Option, Some, None, IfSome, option_map, unwrap_or, All, arith, length-append, ◌⊎◌, inl, inr}
 use Rattle.std.specs.Prelude.{slice_index_or}
 use Rattle.std.specs.List.{range_with_len, list_all, position_from, drop-map}
 use Rattle.std.proofs.lemmas.Bool.{cases_lt}
-use Rattle.std.proofs.lemmas.List.{length-map, get_or-map, map-append, reverse-append}
+use Rattle.std.proofs.lemmas.List.{get_or-map, map-append, reverse-append}
 use Rattle.std.proofs.lemmas.List.Elements.{All-head, All-tail, All-map}
-use Rattle.std.proofs.lemmas.Option.{get_or_from_slice_get, slice_get_within, slice_get_past}
-use Rattle.spec_bits.specs.Pattern.{Either}
+use Rattle.std.proofs.lemmas.Option.{slice_get_within, slice_get_past}
 use Rattle.spec_bits.specs.Item.{item_holds}
-use Rattle.spec_instructions.specs.Tree.{Own}
 use Rattle.spec_instructions.specs.Aliases.{AliasPath, alias_path, alias_paths}
 use Rattle.spec_decode.proofs.HoldLaws.{joined-all}
 use Rattle.mrs_arena.specs.declared.kind.Kind.{Kind}
-use Rattle.mrs_arena.specs.Flat.{FlatItem, FlatNode}
-use Rattle.mrs_arena.specs.Paths.{ancestors, path_up}
+use Rattle.mrs_arena.specs.Flat.{FlatNode}
+use Rattle.mrs_arena.specs.Paths.{path_up}
 use Rattle.mrs_arena.specs.Nodes.{parents_of, node_items}
 use Rattle.mrs_arena.specs.Formed.{AreNodes, IsItem}
 use Rattle.mrs_arena.specs.Limits.{is_leaf, is_alias}

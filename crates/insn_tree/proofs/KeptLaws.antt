@@ -1,9 +1,8 @@
 -- What the tables of a tree say of the paths that end at some nodes, be these leaves or aliases.
-use Rattle.std.proofs.Common.{◌≡◌, ◌∙◌, sym, ap, subst, ℕ, ◌+◌, ◌<◌, ◌≤◌, Bool, true, false, cond, List, [], length, map, get_or, slice_get, Option, Some, None, option_map, All, arith}
+use Rattle.std.proofs.Common.{◌≡◌, ◌∙◌, sym, ap, ℕ, ◌+◌, ◌<◌, ◌≤◌, Bool, cond, List, [], length, map, get_or, slice_get, Some, None, All, arith}
 use Rattle.std.specs.Prelude.{find}
 use Rattle.std.specs.List.{range_with_len}
 use Rattle.std.proofs.lemmas.List.{length-map, get_or-map}
-use Rattle.std.proofs.lemmas.List.Elements.{All-map}
 use Rattle.std.proofs.lemmas.Option.{get_or_from_slice_get}
 use Rattle.spec_instructions.specs.Fields.{fields, IsWithinWord}
 use Rattle.spec_instructions.specs.Paths.{label, labelled_path, has_label, path_items}
@@ -11,7 +10,6 @@ use Rattle.spec_encoding.specs.Layout.{numbers}
 use Rattle.spec_encoding.specs.PathLayout.{layout}
 use Rattle.word_layout.specs.declared.layout.WordLayout.{WordLayout}
 use Rattle.word_layout.specs.Views.{numbers_of}
-use Rattle.spec_walk.specs.Limits.{node_limit}
 use Rattle.mrs_names.specs.Texts.{AreNames}
 use Rattle.mrs_names.specs.declared.name_id.NameId.{NameId}
 use Rattle.mrs_arena.specs.declared.node_id.NodeId.{NodeId}

@@ -1,12 +1,11 @@
 -- What the table of leaves says of them.
-use Rattle.std.proofs.Common.{◌≡◌, ◌∙◌, sym, ap, subst, ℕ, ◌<◌, ◌≤◌, Bool, List, [], length, map, get_or, Option, None, option_map, arith}
+use Rattle.std.proofs.Common.{◌≡◌, ◌∙◌, sym, ap, subst, ℕ, ◌<◌, ◌≤◌, List, [], length, map, get_or, Option, None, option_map, arith}
 use Rattle.std.proofs.lemmas.List.{length-map, get_or-map}
 use Rattle.bit_pattern.specs.declared.pattern.Pattern.{Pattern}
 use Rattle.bit_pattern.specs.Views.{digits_of}
 use Rattle.spec_instructions.specs.Fields.{merged}
 use Rattle.spec_decode.specs.Verdict.{path_holds}
 use Rattle.spec_walk.specs.Limits.{node_limit}
-use Rattle.mrs_arena.specs.declared.kind.Kind.{Kind}
 use Rattle.mrs_arena.specs.declared.node_id.NodeId.{NodeId}
 use Rattle.mrs_arena.specs.Flat.{FlatNode}
 use Rattle.mrs_arena.specs.Formed.{AreNodes}

@@ -17,7 +17,7 @@ use Rattle.mrs_arena.specs.Paths.{ancestors, path_up}
 use Rattle.mrs_arena.specs.Nodes.{parents_of}
 use Rattle.mrs_arena.specs.Formed.{AreNodes}
 use Rattle.mrs_arena.specs.Limits.{is_leaf}
-use Rattle.mrs_arena.specs.Placed.{text_of, own_at, path_to, paths_of, has_kind, leaves_of, IsHeldNode, AreHeld}
+use Rattle.mrs_arena.specs.Placed.{text_of, own_at, path_to, has_kind, IsHeldNode, AreHeld}
 use Rattle.mrs_arena.proofs.NodeLaws.{length-parents_of, count_by-append}
 use Rattle.mrs_arena.proofs.PathLaws.{ancestors-step}
 use Rattle.mrs_arena.proofs.PreorderLaws.{IsPreorder-parent}

@@ -1,5 +1,5 @@
 -- The conditions down to a node, worked from the root on.
-use Rattle.std.proofs.Common.{◌≡◌, ◌∙◌, sym, ap, subst, ℕ, ◌<◌, List, [], map, All, Bool, true, false, Option, Some, None, IfSome, option_map, slice_get}
+use Rattle.std.proofs.Common.{◌≡◌, ◌∙◌, sym, ap, subst, ℕ, ◌<◌, List, [], map, All, Bool, false, Option, Some, None, IfSome, option_map, slice_get}
 use Rattle.std.specs.Prelude.{slice_index_or}
 use Rattle.std.proofs.lemmas.Option.{slice_get_within, get_or_from_slice_get}
 use Rattle.spec_expressions.specs.Expression.{ExprOf, with_names}

@@ -3,7 +3,7 @@ use Rattle.std.proofs.lemmas.List.{length-map}
 use Rattle.mrs_arena.specs.declared.node_id.NodeId.{NodeId}
 use Rattle.mrs_arena.specs.Flat.{FlatNode}
 use Rattle.mrs_arena.specs.Limits.{is_leaf, is_alias}
-use Rattle.mrs_arena.specs.Placed.{leaves_of, aliases_of, has_kind, path_to}
+use Rattle.mrs_arena.specs.Placed.{aliases_of, has_kind, path_to}
 use Rattle.spec_instructions.specs.Tree.{Own}
 use Rattle.spec_instructions.specs.Paths.{labelled_path}
 use Rattle.insn_tree.specs.declared.leaf_id.LeafId.{LeafId}

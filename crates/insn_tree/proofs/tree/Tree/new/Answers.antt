@@ -1,4 +1,3 @@
-use Rattle.std.proofs.Common.{arith}
 use Rattle.insn_tree.proofs.tree.Tree.new.Goals as goal
 
 pub returns-clause-made : goal.returns-clause-made

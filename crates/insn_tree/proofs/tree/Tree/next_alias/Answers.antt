@@ -1,4 +1,4 @@
-use Rattle.std.proofs.Common.{◌+◌, ap, [], arith}
+use Rattle.std.proofs.Common.{◌+◌, ap, []}
 use Rattle.insn_tree.specs.Trees.{TreeParts}
 use Rattle.insn_tree.specs.Trees.{alias_at}
 use Rattle.insn_tree.proofs.AliasKeptLaws.{AreAliases-of, next_kept, found_after, found_from}
