@@ -1,9 +1,10 @@
-//! Features without constraints: the first configuration, the clauses of pins that clash, and a pin of no feature.
+//! The first configuration of features, with and without constraints, the clauses of pins that clash, and a pin of no feature.
 
 use crate::{Model, ModelFault, Outcome, Pin, configure};
 use feat_proof::{Verdict, check, print_log, read_log};
-use mrs_names::NameId;
-use mrs_schema::Features;
+use mrs_names::{NameId, Names};
+use mrs_schema::{Features, read_features};
+use serde_json::Value;
 use std::alloc::Global;
 use std::process::Abort;
 use std::test::Fail;
@@ -68,5 +69,48 @@ fn features_are_configured(rt: HostRuntime) -> Result<(), Fail> {
         configure(alloc, &model, &[ON, UNKNOWN]).err(),
         Some(ModelFault::UnknownFeature { pin: 1 })
     );
+    Ok(())
+}
+
+/// Three features: A needs B, and either B or C is off.
+const THREE_FEATURES: &str = r#"{"parameters":[
+ {"_type":"Parameters.Boolean","name":"A","constraints":[
+  {"_type":"AST.BinaryOp","op":"-->","left":{"_type":"AST.Identifier","value":"A"},"right":{"_type":"AST.Identifier","value":"B"}}]},
+ {"_type":"Parameters.Boolean","name":"B"},
+ {"_type":"Parameters.Boolean","name":"C"}],"constraints":[
+  {"_type":"AST.UnaryOp","op":"!","expr":{"_type":"AST.BinaryOp","op":"&&","left":{"_type":"AST.Identifier","value":"B"},"right":{"_type":"AST.Identifier","value":"C"}}}]}"#;
+
+#[test]
+fn documents_are_configured(rt: HostRuntime) -> Result<(), Fail> {
+    let alloc = rt.alloc();
+    let value = Value::from_slice(alloc, THREE_FEATURES.as_bytes()).map_err(|_| "no JSON reading")?;
+    let mut names = Names::new(alloc);
+    let features = read_features(alloc, &value, &mut names).map_err(|_| "no Features document")?;
+    let model = Model::new(alloc, &features)?;
+    // pins of A, B and C by number, and the states that are first then, if some fit
+    let on = |number: u32| Pin {
+        name: NameId(number),
+        on: true,
+    };
+    let off = |number: u32| Pin {
+        name: NameId(number),
+        on: false,
+    };
+    let table = [
+        ([on(0), on(0)], Some([true, true, false])),
+        ([off(1), off(1)], Some([false, false, true])),
+        ([on(2), on(2)], Some([false, false, true])),
+        ([on(0), on(2)], None),
+    ];
+    for (pins, want) in table {
+        let states = match configure(alloc, &model, &pins)? {
+            Outcome::Chosen(config) => {
+                let state = |number: u32| config.state(NameId(number)).unwrap_or(false);
+                Some([state(0), state(1), state(2)])
+            }
+            Outcome::Refuted(..) => None,
+        };
+        assert_eq!(&rt; states, want);
+    }
     Ok(())
 }
