@@ -1,5 +1,6 @@
 pub mod Digits
 pub mod NumberLaws
+pub mod ByteLaws
 pub mod TokenLaws
 pub mod PairLaws
 pub mod ReadBackLaws
