@@ -5,6 +5,7 @@ pub mod TokenLaws
 pub mod PairLaws
 pub mod ReadBackLaws
 pub mod StreamsBack
+pub mod ReadableLaws
 pub mod Streams
 pub mod StreamLines
 pub mod CutLaws

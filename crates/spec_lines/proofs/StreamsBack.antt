@@ -7,7 +7,7 @@ use Rattle.std.specs.Fmt.{digit_glyph}
 use Rattle.std.proofs.lemmas.Nat.{le_bytes_4}
 use Rattle.std.proofs.lemmas.Bool.{and_parts}
 use Rattle.std.proofs.lemmas.Bool.Decides.{nat_tests}
-use Rattle.std.proofs.lemmas.List.Elements.{All-head, All-tail}
+use Rattle.std.proofs.lemmas.List.Elements.{All-cons, All-head, All-tail}
 use Rattle.spec_bits.specs.Bits.{slice}
 use Rattle.spec_instructions.specs.Name.{is_name, is_name_byte}
 use Rattle.spec_instructions.specs.Tree.{Own}
@@ -142,10 +142,6 @@ record AreWhole (bytes : List ℕ) : Type 0 where
   words : All (λ w. w < 2 ^ 32) (words_in bytes)
   again : flat_map (to_le_bytes w32) (words_in bytes) ≡ bytes
   none_left : rest_in bytes ≡ []
-
-All-cons : {X : Type 0} (P : X → Type 0) (x : X) (xs : List X) → P x → All P xs → All P (x ∷ xs)
-All-cons P x xs here later zero d lt = here
-All-cons P x xs here later (suc k) d lt = later k d (omega arith)
 
 are_whole : (bytes : List ℕ) → All IsByte bytes → length bytes % 4 ≡ 0 → AreWhole bytes
 are_whole [] each whole = record { words = λ k d lt. absurd (omega arith); again = refl; none_left = refl }
