@@ -1,9 +1,11 @@
 pub mod Digits
 pub mod NumberLaws
+pub mod ByteLaws
 pub mod TokenLaws
 pub mod PairLaws
 pub mod ReadBackLaws
 pub mod StreamsBack
+pub mod ReadableLaws
 pub mod Streams
 pub mod StreamLines
 pub mod CutLaws

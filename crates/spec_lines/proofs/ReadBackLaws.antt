@@ -1,8 +1,8 @@
 -- Bare lines are read back to their words.
-use Rattle.std.proofs.Common.{◌≡◌, ◌∙◌, ap, sym, refl, subst, ℕ, zero, suc, ◌+◌, ◌-◌, ◌*◌, ◌/◌, ◌%◌, ◌^◌, ◌≤◌, ◌<◌, List, [], ◌∷◌, ◌++◌, length, map, replicate, Bool, true, false, not, ◌&&◌, ◌||◌, ◌==◌, cond, nat_eq, nat_lt, nat_le, Some, Ok, bytes_eq, codes, decimal, All, arith, append_assoc, append-nil, length-append}
+use Rattle.std.proofs.Common.{◌≡◌, ◌∙◌, ap, sym, refl, subst, ℕ, ◌+◌, ◌-◌, ◌*◌, ◌/◌, ◌%◌, ◌^◌, ◌≤◌, ◌<◌, List, [], ◌∷◌, ◌++◌, length, map, replicate, Bool, true, false, not, ◌&&◌, ◌||◌, ◌==◌, cond, nat_eq, nat_lt, nat_le, Some, Ok, bytes_eq, codes, decimal, All, arith, append_assoc, append-nil, length-append}
 use Rattle.std.specs.Prelude.{flat_map, slice_index_or}
 use Rattle.std.specs.List.{list_all}
-use Rattle.std.specs.Fmt.{digits, digits_onto, digit_glyph}
+use Rattle.std.specs.Fmt.{digits, digit_glyph}
 use Rattle.std.proofs.Math.Nat.{div-le_self, mod-le}
 use Rattle.std.proofs.lemmas.Bool.{and_parts}
 use Rattle.std.proofs.lemmas.Bool.Decides.{nat_tests}
@@ -30,19 +30,13 @@ use Rattle.spec_lines.specs.BareLine.{bare_leaves, word_text}
 use Rattle.spec_lines.specs.Token.{tokens}
 use Rattle.spec_lines.specs.Parsed.{parsed, of_tokens, number_alone, of_label, of_given, encoded_at}
 use Rattle.spec_lines.specs.ReadBack.{IsNamed, IsReadablePath, BareLinesAreRead}
+use Rattle.spec_lines.proofs.ByteLaws.{name_all, hex_all, text_all}
 use Rattle.spec_lines.proofs.NumberLaws.{digits_few, hex_said}
 use Rattle.spec_lines.proofs.TokenLaws.{is_solid, is_run, spaced, placed, front-tokens}
 use Rattle.spec_lines.proofs.PairLaws.{has_no_equals, pair_token, IsPlain, ArePlain, no_pairs, one_pair, rest_tokens, with_rest_said, all_given, rest_is}
 use Rattle.spec_lines.proofs.EncodedLaws.{lone_is}
 
 -- ---- bytes of names and numbers
-
--- a test that follows from another, byte for byte
-all-weaker : (p q : ℕ → Bool) → ((b : ℕ) → p b ≡ true → q b ≡ true) → (xs : List ℕ) → list_all p xs ≡ true → list_all q xs ≡ true
-all-weaker p q step [] h = refl
-all-weaker p q step (x ∷ xs) h =
-    let parts = and_parts (p x) (list_all p xs) h in
-    ap (λ v. v && list_all q xs) (step x parts.0) ∙ all-weaker p q step xs parts.1
 
 name_solid : (b : ℕ) → is_name_byte b ≡ true → is_solid b ≡ true
 name_solid b h =
@@ -65,30 +59,8 @@ glyph_solid d = go (nat_lt d 10)
     go true = let other : (48 + d == 32) ≡ false = grind (arith, nat_tests) in ap not other
     go false = let other : (87 + d == 32) ≡ false = grind (arith, nat_tests) in ap not other
 
-onto_solid : (k base n : ℕ) (acc : List ℕ) → list_all is_solid acc ≡ true → list_all is_solid (digits_onto k base false n acc) ≡ true
-onto_solid zero base n acc h = h
-onto_solid (suc k) base n acc h =
-    let more : list_all is_solid (digit_glyph false (n % base) ∷ acc) ≡ true = ap (λ v. v && list_all is_solid acc) (glyph_solid (n % base)) ∙ h in
-    go (n / base == 0) more (onto_solid k base (n / base) (digit_glyph false (n % base) ∷ acc) more)
-  where
-    go : (v : Bool) → list_all is_solid (digit_glyph false (n % base) ∷ acc) ≡ true → list_all is_solid (digits_onto k base false (n / base) (digit_glyph false (n % base) ∷ acc)) ≡ true
-        → list_all is_solid (cond v (digit_glyph false (n % base) ∷ acc) (digits_onto k base false (n / base) (digit_glyph false (n % base) ∷ acc))) ≡ true
-    go true here later = here
-    go false here later = later
-
-digits_solid : (base n : ℕ) → list_all is_solid (digits base false n) ≡ true
-unfolding digits
-digits_solid base n = onto_solid 64 base n [] refl
-
-both_solid : (xs ys : List ℕ) → list_all is_solid xs ≡ true → list_all is_solid ys ≡ true → list_all is_solid (xs ++ ys) ≡ true
-both_solid xs ys h g = list_all-append is_solid xs ys ∙ ap (λ v. v && list_all is_solid ys) h ∙ g
-
-zeros_solid : (k : ℕ) → list_all is_solid (replicate k 48) ≡ true
-zeros_solid zero = refl
-zeros_solid (suc k) = zeros_solid k
-
 hex_solid : (width n : ℕ) → list_all is_solid (hex width n) ≡ true
-hex_solid width n = both_solid (replicate (width - length (digits 16 false n)) 48) (digits 16 false n) (zeros_solid (width - length (digits 16 false n))) (digits_solid 16 n)
+hex_solid width n = hex_all is_solid glyph_solid width n
 
 hex_few : (n : ℕ) → length (hex 8 n) ≤ 72
 hex_few n = omega (arith, length-append (replicate (8 - length (digits 16 false n)) 48) (digits 16 false n), length-replicate {A = ℕ} (8 - length (digits 16 false n)) 48, digits_few 16 n)
@@ -115,8 +87,8 @@ name_text name h =
     let parts = and_parts (nat_le 1 (length name) && nat_le (length name) 128) (list_all is_name_byte name) h in
     let sizes = and_parts (nat_le 1 (length name)) (nat_le (length name) 128) parts.0 in
     record {
-      solid = all-weaker is_name_byte is_solid name_solid name parts.1;
-      plain = all-weaker is_name_byte (λ b. not (is_equals b)) name_plain name parts.1;
+      solid = name_all is_solid name_solid name h;
+      plain = name_all (λ b. not (is_equals b)) name_plain name h;
       some = grind (arith, nat_tests);
       few = grind (arith, nat_tests);
     }
@@ -126,7 +98,7 @@ labelled_printed sakes name k h = go (nat_lt 1 sakes)
   where
     go : (v : Bool) → IsPrinted (cond v (name ++ 35 ∷ decimal k) name)
     go true = record {
-      solid = both_solid name (35 ∷ decimal k) h.solid (digits_solid 10 k);
+      solid = text_all is_solid glyph_solid name 35 k refl h.solid;
       some = omega (arith, length-append name (35 ∷ decimal k), h.some);
       few = omega (arith, length-append name (35 ∷ decimal k), h.few, digits_few 10 k);
     }
@@ -162,7 +134,7 @@ all_plain w h (f ∷ fields) named = one_pair (field_plain f w h (All-head IsNam
 -- their tokens
 token_run : (name : List ℕ) (n : ℕ) → IsNameText name → is_run (name ++ (61 ∷ decimal n)) ≡ true
 token_run [] n h = absurd (omega (arith, h.some))
-token_run (byte ∷ name) n h = both_solid (byte ∷ name) (61 ∷ decimal n) h.solid (digits_solid 10 n)
+token_run (byte ∷ name) n h = text_all is_solid glyph_solid (byte ∷ name) 61 n refl h.solid
 
 tokens_run : (w : ℕ) (fields : List Field) → All IsNamed fields → list_all is_run (map pair_token (map (λ f. (f.name, slice w f.start f.width)) fields)) ≡ true
 tokens_run w [] named = refl

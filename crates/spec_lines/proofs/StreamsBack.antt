@@ -1,32 +1,32 @@
 -- The bare lines of whole words are assembled to the words again.
-use Rattle.std.proofs.Common.{◌≡◌, ◌∙◌, ap, sym, refl, subst, ℕ, zero, suc, ◌+◌, ◌-◌, ◌*◌, ◌/◌, ◌%◌, ◌^◌, ◌≤◌, ◌<◌, List, [], ◌∷◌, ◌++◌, length, map, replicate, get_or, Bool, true, false, not, ◌&&◌, ◌==◌, cond, nat_eq, nat_lt, nat_le, None, Ok, codes, decimal, All, arith, append_assoc, append-nil}
+use Rattle.std.proofs.Common.{◌≡◌, ◌∙◌, ap, refl, ℕ, zero, suc, ◌+◌, ◌*◌, ◌%◌, ◌^◌, ◌<◌, List, [], ◌∷◌, ◌++◌, length, map, get_or, Bool, true, false, ◌&&◌, ◌==◌, cond, nat_eq, nat_lt, nat_le, None, Ok, codes, All, arith, append_assoc, append-nil}
 use Rattle.std.specs.Prelude.{flat_map, slice_index_or, Result}
 use Rattle.std.specs.List.{list_all}
 use Rattle.std.specs.Int.{w32, from_le_bytes, to_le_bytes}
-use Rattle.std.specs.Fmt.{digits, digits_onto, digit_glyph}
+use Rattle.std.specs.Fmt.{digit_glyph}
 use Rattle.std.proofs.lemmas.Nat.{le_bytes_4}
 use Rattle.std.proofs.lemmas.Bool.{and_parts}
 use Rattle.std.proofs.lemmas.Bool.Decides.{nat_tests}
-use Rattle.std.proofs.lemmas.List.Folds.{list_all-append}
-use Rattle.std.proofs.lemmas.List.Elements.{All-head, All-tail}
+use Rattle.std.proofs.lemmas.List.Elements.{All-cons, All-head, All-tail}
 use Rattle.spec_bits.specs.Bits.{slice}
 use Rattle.spec_instructions.specs.Name.{is_name, is_name_byte}
 use Rattle.spec_instructions.specs.Tree.{Own}
 use Rattle.spec_instructions.specs.Fields.{Field}
-use Rattle.spec_instructions.specs.Paths.{path_name, namesakes, labelled, label}
+use Rattle.spec_instructions.specs.Paths.{path_name, namesakes, label}
 use Rattle.spec_decode.specs.Found.{Candidate, found}
 use Rattle.spec_decode.specs.Machine.{Machine}
 use Rattle.spec_encoding.specs.PathLayout.{shown, rest_of}
 use Rattle.spec_encoding.specs.Encoding.{own_pairs}
 use Rattle.spec_lines.specs.Hex.{hex}
 use Rattle.spec_lines.specs.Pairs.{pair_text, rest_text, pairs_text}
-use Rattle.spec_lines.specs.BareLine.{bare_text, bare_leaves, bare_line, word_text}
+use Rattle.spec_lines.specs.BareLine.{bare_text, bare_leaves, word_text}
 use Rattle.spec_lines.specs.Words.{words_in, rest_in}
-use Rattle.spec_lines.specs.Streams.{Bare, word_lines, bytes_line, stream_lines}
+use Rattle.spec_lines.specs.Streams.{Bare, word_lines, bytes_line}
 use Rattle.spec_lines.specs.LineFault.{LineFault}
 use Rattle.spec_lines.specs.Parsed.{parsed}
-use Rattle.spec_lines.specs.Assembly.{Assembled, lines_in, before_lines, before_assembled, assembled_from, assembled}
+use Rattle.spec_lines.specs.Assembly.{lines_in, before_lines, before_assembled, assembled_from, assembled}
 use Rattle.spec_lines.specs.ReadBack.{IsNamed, IsReadable, BareStreamsAreRead}
+use Rattle.spec_lines.proofs.ByteLaws.{name_all, both_all, hex_all, text_all, labelled_all}
 use Rattle.spec_lines.proofs.EncodedLaws.{lone_is}
 use Rattle.spec_lines.proofs.ReadBackLaws.{bare_lines_are_read}
 
@@ -35,12 +35,6 @@ use Rattle.spec_lines.proofs.ReadBackLaws.{bare_lines_are_read}
 -- a byte is none that ends a line
 abbrev is_inner : ℕ → Bool
 is_inner byte = nat_le 32 byte
-
-all_weaker : (p q : ℕ → Bool) → ((b : ℕ) → p b ≡ true → q b ≡ true) → (xs : List ℕ) → list_all p xs ≡ true → list_all q xs ≡ true
-all_weaker p q step [] h = refl
-all_weaker p q step (x ∷ xs) h =
-    let parts = and_parts (p x) (list_all p xs) h in
-    ap (λ v. v && list_all q xs) (step x parts.0) ∙ all_weaker p q step xs parts.1
 
 name_inner : (b : ℕ) → is_name_byte b ≡ true → is_inner b ≡ true
 name_inner b h =
@@ -54,46 +48,20 @@ glyph_inner d = go (nat_lt d 10)
     go true = grind (arith, nat_tests)
     go false = grind (arith, nat_tests)
 
-onto_inner : (k base n : ℕ) (acc : List ℕ) → list_all is_inner acc ≡ true → list_all is_inner (digits_onto k base false n acc) ≡ true
-onto_inner zero base n acc h = h
-onto_inner (suc k) base n acc h =
-    let more : list_all is_inner (digit_glyph false (n % base) ∷ acc) ≡ true = ap (λ v. v && list_all is_inner acc) (glyph_inner (n % base)) ∙ h in
-    go (n / base == 0) more (onto_inner k base (n / base) (digit_glyph false (n % base) ∷ acc) more)
-  where
-    go : (v : Bool) → list_all is_inner (digit_glyph false (n % base) ∷ acc) ≡ true → list_all is_inner (digits_onto k base false (n / base) (digit_glyph false (n % base) ∷ acc)) ≡ true
-        → list_all is_inner (cond v (digit_glyph false (n % base) ∷ acc) (digits_onto k base false (n / base) (digit_glyph false (n % base) ∷ acc))) ≡ true
-    go true here later = here
-    go false here later = later
-
-digits_inner : (base n : ℕ) → list_all is_inner (digits base false n) ≡ true
-unfolding digits
-digits_inner base n = onto_inner 64 base n [] refl
-
 both_inner : (xs ys : List ℕ) → list_all is_inner xs ≡ true → list_all is_inner ys ≡ true → list_all is_inner (xs ++ ys) ≡ true
-both_inner xs ys h g = list_all-append is_inner xs ys ∙ ap (λ v. v && list_all is_inner ys) h ∙ g
-
-zeros_inner : (k : ℕ) → list_all is_inner (replicate k 48) ≡ true
-zeros_inner zero = refl
-zeros_inner (suc k) = zeros_inner k
+both_inner xs ys h g = both_all is_inner glyph_inner xs ys h g
 
 hex_inner : (width n : ℕ) → list_all is_inner (hex width n) ≡ true
-hex_inner width n = both_inner (replicate (width - length (digits 16 false n)) 48) (digits 16 false n) (zeros_inner (width - length (digits 16 false n))) (digits_inner 16 n)
+hex_inner width n = hex_all is_inner glyph_inner width n
 
 name_is_inner : (name : List ℕ) → is_name name ≡ true → list_all is_inner name ≡ true
-name_is_inner name h = all_weaker is_name_byte is_inner name_inner name (and_parts (nat_le 1 (length name) && nat_le (length name) 128) (list_all is_name_byte name) h).1
-
-labelled_inner : (sakes : ℕ) (name : List ℕ) (k : ℕ) → list_all is_inner name ≡ true → list_all is_inner (labelled sakes name k) ≡ true
-labelled_inner sakes name k h = go (nat_lt 1 sakes)
-  where
-    go : (v : Bool) → list_all is_inner (cond v (name ++ 35 ∷ decimal k) name) ≡ true
-    go true = both_inner name (35 ∷ decimal k) h (digits_inner 10 k)
-    go false = h
+name_is_inner name h = name_all is_inner name_inner name h
 
 pairs_inner : (w : ℕ) (fields : List Field) → All IsNamed fields → list_all is_inner (flat_map pair_text (map (λ f. (f.name, slice w f.start f.width)) fields)) ≡ true
 pairs_inner w [] named = refl
 pairs_inner w (f ∷ fields) named =
     both_inner (pair_text (f.name, slice w f.start f.width)) (flat_map pair_text (map (λ f. (f.name, slice w f.start f.width)) fields))
-    (both_inner f.name (61 ∷ decimal (slice w f.start f.width)) (name_is_inner f.name (All-head IsNamed f fields named).name) (digits_inner 10 (slice w f.start f.width)))
+    (text_all is_inner glyph_inner f.name 61 (slice w f.start f.width) refl (name_is_inner f.name (All-head IsNamed f fields named).name))
     (pairs_inner w fields (All-tail IsNamed f fields named))
 
 rest_inner : (rest : ℕ) → list_all is_inner (rest_text rest) ≡ true
@@ -117,7 +85,7 @@ text_is machine w h = go (found machine.paths machine.configuration w) refl
         let path : List Own = slice_index_or machine.paths c.leaf [] in
         let readable = h.paths c.leaf [] one.within in
         let name : List ℕ = label machine.paths c.leaf in
-        let named = labelled_inner (namesakes (path_name path) machine.paths) (path_name path) c.leaf (name_is_inner (path_name path) readable.label) in
+        let named = labelled_all is_inner glyph_inner (namesakes (path_name path) machine.paths) (path_name path) c.leaf refl (name_is_inner (path_name path) readable.label) in
         let pairs = both_inner (flat_map pair_text (own_pairs path w)) (rest_text (rest_of path w)) (pairs_inner w (shown path) readable.fields) (rest_inner (rest_of path w)) in
         record { some = omega arith; inner = both_inner name (pairs_text path w) named pairs }
 
@@ -174,10 +142,6 @@ record AreWhole (bytes : List ℕ) : Type 0 where
   words : All (λ w. w < 2 ^ 32) (words_in bytes)
   again : flat_map (to_le_bytes w32) (words_in bytes) ≡ bytes
   none_left : rest_in bytes ≡ []
-
-All-cons : {X : Type 0} (P : X → Type 0) (x : X) (xs : List X) → P x → All P xs → All P (x ∷ xs)
-All-cons P x xs here later zero d lt = here
-All-cons P x xs here later (suc k) d lt = later k d (omega arith)
 
 are_whole : (bytes : List ℕ) → All IsByte bytes → length bytes % 4 ≡ 0 → AreWhole bytes
 are_whole [] each whole = record { words = λ k d lt. absurd (omega arith); again = refl; none_left = refl }
