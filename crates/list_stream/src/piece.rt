@@ -44,8 +44,11 @@ impl Stop {
 /// What a look for a byte past the limit found.
 #[derive(Clone, Copy, Debug, PartialEq, Eq)]
 pub enum Look {
+    /// No byte follows: the stream ends at the limit.
     End,
+    /// A byte follows.
     More,
+    /// The source failed.
     Failed,
 }
 

@@ -14,11 +14,12 @@ pub struct LineFault {
 pub enum LineWhy {
     /// The line has more than 65,536 bytes.
     Long,
-    /// The first token is neither `leaf` nor `word`.
+    /// The first token is neither `leaf` nor `word`, or there is none.
     Head,
-    /// The second token is no label of a leaf.
+    /// The token behind `leaf` is no label of a leaf, or there is none.
     Label,
-    /// A token is not the one number of a word, is no `NAME=NUMBER`, or is a second `rest=`.
+    /// The token behind `word` is no number below 2^32, or there is none, or a third token follows; or a token behind a label
+    /// is no `NAME=NUMBER`, or is a second `rest=`.
     Pair,
     /// There are more than 256 fields, the rest not counted.
     Many,

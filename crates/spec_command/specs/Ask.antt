@@ -21,7 +21,7 @@ may_say key text = record { keys = key ∷ []; value = λ settings. Some (unwrap
 abbrev pub may_be : {A : Type 0} → List ℕ → (List ℕ → Option A) → A → Ask A
 may_be key read other = record { keys = key ∷ []; value = λ settings. Some (unwrap_or (option_and_then read (value_in key settings)) other) }
 
--- a key that any number of settings may have: their values in order
+-- a key that several settings may have, as many as there is room for by the limit on pins: their values in order
 abbrev pub every : List ℕ → Ask (List (List ℕ))
 every key = record { keys = key ∷ []; value = λ settings. Some (values_in key settings) }
 

@@ -37,7 +37,7 @@ bare_by text = if bytes_eq text (codes "full") then Some false else (if bytes_eq
 abbrev pub form : Ask Bool
 form = may_be (codes "form") bare_by false
 
--- `max`, at most how many bytes of the stream are taken: a number up to 2^40, and 2^32 where no setting says it
+-- `max`, at most how many bytes of the stream are taken: a number below 2 ^ 40 + 1, and 2 ^ 32 where no setting says it
 abbrev pub limit_by : List ℕ → Option ℕ
 limit_by text = number_below 1099511627777 text
 

@@ -20,6 +20,6 @@ pins_in settings = filter_map pin_in settings
 abbrev pub pin_keys : List (List ℕ)
 pin_keys = codes "on" ∷ codes "off" ∷ []
 
--- any number of settings may be pins: they are asked for together, in the order of the words
+-- several settings may be pins, at most 4,096 (`pin_limit`): they are asked for together, in the order of the words
 abbrev pub pins : Ask (List Pin)
 pins = record { keys = pin_keys; value = λ settings. Some (pins_in settings) }

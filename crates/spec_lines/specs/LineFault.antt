@@ -5,11 +5,12 @@ use Rattle.spec_encoding.specs.Refusal.{Refusal}
 pub data LineWhy : Type 0 where
   -- the line is too long
   Long : LineWhy
-  -- it does not begin with a word that it may begin with
+  -- it does not begin with a word that it may begin with, or has no token
   Head : LineWhy
-  -- no leaf has that label
+  -- no leaf has that label, or there is none
   Label : LineWhy
-  -- what should be a number, or a field with its number, is none
+  -- behind `word`, what should be a number is none or is missing, or a third token follows; behind a label, what should be a
+  -- field with its number is none, or is a second `rest=`
   Pair : LineWhy
   -- there are too many fields
   Many : LineWhy

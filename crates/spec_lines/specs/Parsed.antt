@@ -14,12 +14,13 @@ use Rattle.spec_lines.specs.Given.{Given, number_bound, nothing, given_behind}
 abbrev pub line_limit : ℕ
 line_limit = 65536
 
--- what the tokens behind `word` say: one number. `end` is the length of the line, where missing tokens are refused
+-- a number that stands alone: no token follows it
 abbrev pub number_alone : ℕ → List Token → Option ℕ → Result ℕ LineFault
 number_alone at tokens None = refused at Pair
 number_alone at [] (Some w) = Ok w
 number_alone at (token ∷ tokens) (Some w) = refused token.at Pair
 
+-- what the tokens behind `word` say: one number. `end` is the length of the line, where missing tokens are refused
 abbrev pub of_word : ℕ → List Token → Result ℕ LineFault
 of_word end [] = refused end Pair
 of_word end (number ∷ tokens) = number_alone number.at tokens (number_below number_bound number.text)
