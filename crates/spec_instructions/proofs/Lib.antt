@@ -6,3 +6,6 @@ pub mod MergedLaws
 pub mod VisibleLaws
 pub mod LabelLaws
 pub mod AliasLaws
+pub mod NamedCounts
+pub mod LeafCounts
+pub mod SoundPathLaws

@@ -10,3 +10,4 @@ pub mod Fields
 pub mod Shape
 pub mod Aliases
 pub mod Reading
+pub mod SoundPaths

@@ -1,6 +1,7 @@
 //! Laws that readers may rely on: what the definitions of documents, fields, merged bits and labels come to.
 
 ghost use Rattle.spec_instructions.specs.Reading.{FirstFaultDecides, TreesAreSound};
+ghost use Rattle.spec_instructions.specs.SoundPaths.{PathsAreSound};
 ghost use Rattle.spec_instructions.specs.Paths.{LabelsFindLeaves, LabelsTellLeaves};
 ghost use Rattle.spec_instructions.specs.Aliases.{AliasesAreBelowLeaves, AliasesAreAll, LabelsTellAliases};
 ghost use Rattle.spec_instructions.specs.Fields.{FieldsAreVisible, MergedIsExact};
@@ -14,6 +15,13 @@ pub fn first_fault_decides()
 /// nodes that may, names are within their limits, and each item lies within the word, with a mark for each digit.
 pub fn trees_are_sound()
     ensures { TreesAreSound }
+{}
+
+/// A law on the paths to the leaves of an accepted document: there are no more of them than of leaves there may be, the
+/// name of each is a name, its items lie within the word, with a mark for each digit, and no more of them have a name,
+/// none of the words `rest` and `sys`, than may.
+pub fn paths_are_sound()
+    ensures { PathsAreSound }
 {}
 
 /// A law on the visible fields: a field is there exactly where some item of the path has its name. It is the deepest
