@@ -3,16 +3,19 @@ use Rattle.std.proofs.Common.{◌≡◌, ◌≢◌, sym, subst, ℕ, ◌+◌, �
 use Rattle.std.specs.Prelude.{count_by, IfSome}
 use Rattle.std.specs.List.{list_any}
 use Rattle.std.proofs.lemmas.Bool.{and_parts}
-use Rattle.std.proofs.lemmas.List.Elements.{All-nil, All-cons, All-head, All-tail, All-filter}
+use Rattle.std.proofs.lemmas.List.Elements.{All-nil, All-cons, All-head, All-tail, All-filter, All-weaker}
 use Rattle.std.proofs.lemmas.List.Sums.{sum_by-cons, length-filter, count_by-le-length}
 use Rattle.std.proofs.lemmas.Slice.Eq.{bytes_eq-Decides}
 use Rattle.spec_bits.specs.Item.{Item}
 use Rattle.spec_instructions.specs.Name.{is_name}
 use Rattle.spec_instructions.specs.Encodeset.{is_field_name}
 use Rattle.spec_instructions.specs.Paths.{path_items}
-use Rattle.spec_instructions.specs.Fields.{is_named, visible_item, visible, fields}
+use Rattle.spec_instructions.specs.Shape.{IsSoundItem}
+use Rattle.spec_instructions.specs.Fields.{is_named, visible_item, visible, fields, IsWithinWord}
+use Rattle.spec_instructions.specs.SoundPaths.{IsSoundPath}
 use Rattle.spec_encoding.specs.PathLayout.{is_shown}
-use Rattle.spec_lines.specs.ReadBack.{IsNamed, SoundPathsAreReadable}
+use Rattle.spec_encoding.specs.Encoding.{IsFormed}
+use Rattle.spec_lines.specs.ReadBack.{IsNamed, IsReadablePath, SoundPathsAreReadable, SoundMachinesAreReadable}
 
 abbrev IsFieldItem : Item → Type 0
 IsFieldItem it = IfSome it.name (λ name. is_field_name name ≡ true)
@@ -54,7 +57,14 @@ visible_few (it ∷ items) = subst (λ n. length (visible (it ∷ items)) ≤ n)
 
 pub sound_paths_are_readable : SoundPathsAreReadable
 sound_paths_are_readable path h = record {
-  label = h.label;
+  label = h.name;
   few = omega (arith, length-filter (is_shown path) (fields path), count_by-le-length (is_shown path) (fields path), visible_few (path_items path), h.few);
-  fields = All-filter (is_shown path) IsNamed (fields path) (visible_named (path_items path) h.items);
+  fields = All-filter (is_shown path) IsNamed (fields path) (visible_named (path_items path) (All-weaker IsSoundItem IsFieldItem (λ it is. is.name) (path_items path) h.items));
+}
+
+pub sound_machines_are_readable : SoundMachinesAreReadable
+sound_machines_are_readable machine h = record {
+  few = h.few;
+  within = All-weaker IsSoundPath IsFormed (λ path sound. All-weaker IsSoundItem IsWithinWord (λ it is. is.fits) (path_items path) sound.items) machine.paths h.each;
+  paths = All-weaker IsSoundPath IsReadablePath sound_paths_are_readable machine.paths h.each;
 }

@@ -1,12 +1,11 @@
 -- Bare lines are read back to their words.
-use Rattle.std.specs.Prelude.{ℕ, ◌^◌, ◌≡◌, ◌≢◌, ◌<◌, ◌≤◌, ◌%◌, List, length, count_by, All, IfSome, is_some, true, codes, Ok, None}
+use Rattle.std.specs.Prelude.{ℕ, ◌^◌, ◌≡◌, ◌≢◌, ◌<◌, ◌≤◌, ◌%◌, List, length, All, true, codes, Ok, None}
 use Rattle.spec_walk.specs.Limits.{leaf_limit}
-use Rattle.spec_instructions.specs.Limits.{named_limit}
 use Rattle.spec_instructions.specs.Name.{is_name}
-use Rattle.spec_instructions.specs.Encodeset.{is_field_name}
 use Rattle.spec_instructions.specs.Tree.{Own}
-use Rattle.spec_instructions.specs.Paths.{path_name, path_items}
+use Rattle.spec_instructions.specs.Paths.{path_name}
 use Rattle.spec_instructions.specs.Fields.{Field}
+use Rattle.spec_instructions.specs.SoundPaths.{IsSoundPath, AreSoundPaths}
 use Rattle.spec_decode.specs.Bucket.{AreWithinWord}
 use Rattle.spec_decode.specs.Machine.{Machine}
 use Rattle.spec_encoding.specs.PathLayout.{shown}
@@ -43,12 +42,9 @@ BareStreamsAreRead = (machine : Machine) (bytes : List ℕ) → All (λ byte. by
 
 -- ---- which lines these are
 
--- a path of a document without faults: its leaf has a name, its fields have names that fields may have, and no more items have
--- names than may
-pub record IsSoundPath (path : List Own) : Type 0 where
-  pub label : is_name (path_name path) ≡ true
-  pub items : All (λ it. IfSome it.name (λ name. is_field_name name ≡ true)) (path_items path)
-  pub few : count_by (λ it. is_some it.name) (path_items path) ≤ named_limit
-
+-- the leaves of each document without faults have sound paths
 abbrev pub SoundPathsAreReadable : Type 0
 SoundPathsAreReadable = (path : List Own) → IsSoundPath path → IsReadablePath path
+
+abbrev pub SoundMachinesAreReadable : Type 0
+SoundMachinesAreReadable = (machine : Machine) → AreSoundPaths machine.paths → IsReadable machine

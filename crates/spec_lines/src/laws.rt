@@ -1,7 +1,7 @@
 //! Laws about lines.
 
 ghost use Rattle.spec_lines.specs.Encoded.{LoneFieldsTellWord};
-ghost use Rattle.spec_lines.specs.ReadBack.{BareLinesAreRead, BareStreamsAreRead, SoundPathsAreReadable};
+ghost use Rattle.spec_lines.specs.ReadBack.{BareLinesAreRead, BareStreamsAreRead, SoundPathsAreReadable, SoundMachinesAreReadable};
 
 /// A law: the fields and the rest that a line tells of a lone leaf encode the word of the line, and no other word.
 pub fn lone_fields_tell_word()
@@ -15,4 +15,5 @@ pub fn bare_lines_are_read()
     ensures line { BareLinesAreRead }
     ensures stream { BareStreamsAreRead }
     ensures readable { SoundPathsAreReadable }
+    ensures machines { SoundMachinesAreReadable }
 {}

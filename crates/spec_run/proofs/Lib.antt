@@ -4,3 +4,4 @@ pub mod Exact
 pub mod Told
 pub mod Worked
 pub mod Logs
+pub mod RoundTrip

@@ -13,3 +13,4 @@ pub mod Ran
 pub mod Answers
 pub mod Fits
 pub mod Exact
+pub mod RoundTrip

@@ -4,6 +4,7 @@
 #![tactic(auto)]
 
 ghost use Rattle.spec_run.specs.Exact.{AnswersAreExact, RunsComplete, FaultsComeLate, PrefixesGoOut};
+ghost use Rattle.spec_run.specs.RoundTrip.{BareLinesAreAssembled, ListsAreAssembled};
 
 /// A law on what statuses say: over a shelf and a source that tell their contents, every status that is neither a
 /// fault of the outside nor want of memory is that of the outcome, and exactly the outcome's bytes went out.
@@ -27,4 +28,12 @@ pub fn faults_come_late()
 /// out after a failed read of the stream, after a failed write, and when memory ran out.
 pub fn prefixes_go_out()
     ensures { PrefixesGoOut }
+{}
+
+/// Laws on the way back: the bare lines of whole words are assembled to the bytes of these words, and so a stream that
+/// `list` puts out to its end in bare lines is given again by `asm` over these lines, with the same document, set and
+/// features.
+pub fn lists_are_assembled()
+    ensures lines { BareLinesAreAssembled }
+    ensures runs { ListsAreAssembled }
 {}
