@@ -8,6 +8,7 @@ use Rattle.spec_walk.specs.Event.{Missing, UnlistedKind}
 use Rattle.spec_decode.specs.Machine.{Machine}
 use Rattle.spec_command.specs.Request.{request}
 use Rattle.spec_command.specs.Commands.{Request, AskList, AskLeaf}
+use Rattle.spec_run.specs.RoundTrip.{AreInverse}
 use Rattle.spec_run.specs.End.{Done, Ragged, Usage, Document, Question, NoLeaf, Line, ReadFault, WriteFault, Limit, Insns, Log, Input, Json, Schema, Syntax, message}
 use Rattle.spec_run.specs.Opening.{OpeningError, Refused, of_value}
 use Rattle.spec_run.specs.Work.{Outcome}
@@ -144,3 +145,8 @@ past_the_variables = refl
 syntax_text : message (Document Log (Syntax 44)) ≡ codes "document log syntax 44\n"
 unfolding digits
 syntax_text = refl
+
+-- ---- words whose results are each other's streams
+
+inverse : AreInverse (codes "list" ∷ codes "insns=d" ∷ codes "form=bare" ∷ []) (codes "asm" ∷ codes "insns=d" ∷ [])
+inverse = record { release = record { insns = codes "d"; isa = codes "A64" }; on = []; list_limit = 4294967296; asm_limit = 4294967296; lists = refl; assembles = refl }
