@@ -67,8 +67,8 @@ module _ (lister : Lister) (a a1 a2 : Assembly) (taken piece bytes : List ℕ) (
     h.0,
     h.1,
     λ done before so_far.
-      let all : done ++ bytes ≡ ((done ++ taken) ++ piece) ++ more = ap (λ b. done ++ b) e ∙ sym (append_assoc done (taken ++ piece) more) ∙ ap (λ b. b ++ more) (sym (append_assoc done taken piece)) in
-      rw all (refusal_stays (machine lister) ((done ++ taken) ++ piece) more h.0 (before ++ a2.words.items) (h.2 (done ++ taken) before (first done before so_far))),
+        let all : done ++ bytes ≡ ((done ++ taken) ++ piece) ++ more = ap (λ b. done ++ b) e ∙ sym (append_assoc done (taken ++ piece) more) ∙ ap (λ b. b ++ more) (sym (append_assoc done taken piece)) in
+        rw all (refusal_stays (machine lister) ((done ++ taken) ++ piece) more h.0 (before ++ a2.words.items) (h.2 (done ++ taken) before (first done before so_far))),
   )
   stops_within more stop.Memory e h = tt
   stops_within more stop.Input e h = absurd h
@@ -106,9 +106,8 @@ module _ (lister : Lister) (a : Assembly) (out out1 : Writing) (words : List ℕ
 -- ---- one piece
 
 module _ (lister : Lister) (a cleared a1 : Assembly) (room : ℕ) (input input1 : Reading) (out out1 : Writing) (buffer : List ℕ) (n : ℕ)
-  (number_is : cleared.number ≡ a.number) (left_is : cleared.left.items ≡ a.left.items) (words_are : cleared.words.items ≡ [])
-  (fits : n ≤ room) (size : length (take n buffer) ≡ n) (read : Consumes input.left input1.left (take n buffer)) where
-
+    (number_is : cleared.number ≡ a.number) (left_is : cleared.left.items ≡ a.left.items) (words_are : cleared.words.items ≡ [])
+    (fits : n ≤ room) (size : length (take n buffer) ≡ n) (read : Consumes input.left input1.left (take n buffer)) where
   abbrev m : Machine
   m = machine lister
 

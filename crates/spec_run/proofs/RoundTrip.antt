@@ -15,6 +15,7 @@ use Rattle.spec_lines.specs.Streams.{Bare, word_lines, stream_lines}
 use Rattle.spec_lines.specs.ReadBack.{IsReadable}
 use Rattle.spec_lines.proofs.Streams.{length-rest_in}
 use Rattle.spec_lines.proofs.StreamsBack.{bare_streams_are_read}
+use Rattle.spec_lines.proofs.EncodedLaws.{lone_fields_tell_word}
 use Rattle.spec_lines.proofs.ReadableLaws.{sound_machines_are_readable}
 use Rattle.spec_run.specs.End.{Done, Ragged, Document, ReadFault, Limit, Insns, Input}
 use Rattle.spec_run.specs.Work.{Outcome}
@@ -22,6 +23,7 @@ use Rattle.spec_run.specs.Opening.{OpeningError, NotRead, TooLong, Refused, end_
 use Rattle.spec_run.specs.Listing.{stream_end, list_outcome}
 use Rattle.spec_run.specs.Assembling.{assembly_outcome, asm_outcome}
 use Rattle.spec_run.specs.Outcome.{after_opening, of_request}
+use Rattle.spec_run.specs.Fields.{OpenedFieldsTellWord}
 use Rattle.spec_run.specs.RoundTrip.{AreBytes, BareLinesAreAssembled, ListsAreAssembled}
 use Rattle.spec_run.proofs.Assembling.{asm_whole}
 
@@ -84,6 +86,10 @@ document_is_readable isa on machine (Some bytes) e = go (nat_lt document_limit (
 
 opened_is_readable : (release : Release) (on : List (List ℕ)) (docs : List Named) (machine : Machine) → machine_opened release on docs ≡ Ok machine → IsReadable machine
 opened_is_readable release on docs machine e = document_is_readable release.isa on machine (document_of release.insns docs) e
+
+-- so its lines tell words by their fields
+pub opened_fields_tell_word : OpenedFieldsTellWord
+opened_fields_tell_word release on docs machine w c e word lone = lone_fields_tell_word machine w c word (opened_is_readable release on docs machine e).within lone
 
 pub lists_are_assembled : ListsAreAssembled
 lists_are_assembled list_words asm_words docs bytes lines h small e le =

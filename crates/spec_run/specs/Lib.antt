@@ -14,3 +14,4 @@ pub mod Answers
 pub mod Fits
 pub mod Exact
 pub mod RoundTrip
+pub mod Fields

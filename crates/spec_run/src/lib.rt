@@ -4,6 +4,7 @@
 #![tactic(auto)]
 
 ghost use Rattle.spec_run.specs.Exact.{AnswersAreExact, RunsComplete, FaultsComeLate, PrefixesGoOut};
+ghost use Rattle.spec_run.specs.Fields.{OpenedFieldsTellWord};
 ghost use Rattle.spec_run.specs.RoundTrip.{BareLinesAreAssembled, ListsAreAssembled};
 
 /// A law on what statuses say: over a shelf and a source that tell their contents, every status that is neither a
@@ -36,4 +37,10 @@ pub fn prefixes_go_out()
 pub fn lists_are_assembled()
     ensures lines { BareLinesAreAssembled }
     ensures runs { ListsAreAssembled }
+{}
+
+/// A law on lines: on each machine that is opened, the fields and the rest that a line tells of a lone leaf encode the word
+/// of the line, and no other word.
+pub fn opened_fields_tell_word()
+    ensures { OpenedFieldsTellWord }
 {}

@@ -13,7 +13,7 @@ returns-then-n-buffer g c = λ r w size p il ol.
     let q = progress_short c.args.lister.now c.args.assembly.now c.assemble_piece.new.assembly r _ _ w _ _ size c.in-Ok.n c.assemble_piece.new.buffer p c.in-Ok.ensures.piece in
     let within : size + c.in-Ok.n ≤ size + length c.args.buffer.now = omega (arith, c.assemble_piece.auto.buffer) in
     rw c.ended-then-n-buffer.ensures (finished c.args.lister.now _ c.assemble_piece.new.assembly r _ w _ _ (size + c.in-Ok.n) q within (c.in-Ok.ensures.piece.end short) c.finish.result
-      (omega (arith, c.in-Ok.ensures.cause.input_later)) (omega (arith, c.in-Ok.ensures.cause.out_later)) c.finish.ensures.later c.finish.ensures.last)
+    (omega (arith, c.in-Ok.ensures.cause.input_later)) (omega (arith, c.in-Ok.ensures.cause.out_later)) c.finish.ensures.later c.finish.ensures.last)
 
 pub returns-in-End : goal.returns-in-End
 returns-in-End g c = λ r w size p il ol.
@@ -22,7 +22,7 @@ returns-in-End g c = λ r w size p il ol.
     let q = progress_next c.args.lister.now c.args.assembly.now c.assemble_piece.new.assembly r _ _ w _ _ size c.in-Ok.n c.assemble_piece.new.buffer full p c.in-Ok.ensures.piece in
     let k = nothing_behind c.args.lister.now _ c.assemble_piece.new.assembly r _ _ w _ q c.in-End.ensures in
     rw c.ended-in-End.ensures (finished c.args.lister.now _ c.assemble_piece.new.assembly r _ w _ _ (size + length c.assemble_piece.new.buffer) k (omega (arith, limit)) c.in-End.ensures.1 c.finish-in-End.result
-      (omega (arith, c.in-Ok.ensures.cause.input_later, c.in-End.ensures.2)) (omega (arith, c.in-Ok.ensures.cause.out_later)) c.finish-in-End.ensures.later c.finish-in-End.ensures.last)
+    (omega (arith, c.in-Ok.ensures.cause.input_later, c.in-End.ensures.2)) (omega (arith, c.in-Ok.ensures.cause.out_later)) c.finish-in-End.ensures.later c.finish-in-End.ensures.last)
 
 pub returns-in-More : goal.returns-in-More
 returns-in-More g c = λ r w size p il ol.

@@ -19,7 +19,7 @@ returns-then-n-lt-PIECE g c =
     let q = progress_short c.args.lister.now _ c.assemble_piece.new.assembly _ _ _ _ _ _ (c.loop-k._k * 65536) c.in-Ok.n c.assemble_piece.new.buffer c.loop-k.invariant.progress c.in-Ok.ensures.piece in
     let within : c.loop-k._k * 65536 + c.in-Ok.n ≤ c.args.max = omega arith in
     rw c.ended-then-n-lt-PIECE.ensures (finished c.args.lister.now _ c.assemble_piece.new.assembly _ _ _ _ _ (c.loop-k._k * 65536 + c.in-Ok.n) q within (c.in-Ok.ensures.piece.end short) c.finish.result
-      (omega (arith, c.loop-k.invariant.input_later, c.in-Ok.ensures.cause.input_later)) (omega (arith, c.loop-k.invariant.out_later, c.in-Ok.ensures.cause.out_later)) c.finish.ensures.later c.finish.ensures.last)
+    (omega (arith, c.loop-k.invariant.input_later, c.in-Ok.ensures.cause.input_later)) (omega (arith, c.loop-k.invariant.out_later, c.in-Ok.ensures.cause.out_later)) c.finish.ensures.later c.finish.ensures.last)
 
 pub loop-k-preserved : goal.loop-k-preserved
 loop-k-preserved g c =

@@ -33,5 +33,5 @@ returns g c =
     let size : c.args.max / 65536 * 65536 + length (take (c.args.max % 65536) c.loop-k.buffer) ≡ c.args.max = omega (arith, length-take (c.args.max % 65536) c.loop-k.buffer, c.loop-k.invariant.room) in
     let ran = c.list_last.ensures _ _ c.loop-k.k c.loop-k.invariant.progress from c.loop-k.invariant.input_later c.loop-k.invariant.out_later in
     subst
-      (λ n. Ran (g.S.Source.reading c.args.input.now) (g.S.Source.reading c.list_last.new.input) (g.K.Sink.writing c.args.out.now) (g.K.Sink.writing c.list_last.new.out) (Reads (list_work (form c.args.lister.now) (machine c.args.lister.now) n)) (end_of c.list_last.result))
-      size ran
+    (λ n. Ran (g.S.Source.reading c.args.input.now) (g.S.Source.reading c.list_last.new.input) (g.K.Sink.writing c.args.out.now) (g.K.Sink.writing c.list_last.new.out) (Reads (list_work (form c.args.lister.now) (machine c.args.lister.now) n)) (end_of c.list_last.result))
+    size ran
