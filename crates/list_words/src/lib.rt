@@ -25,6 +25,8 @@ mod path_names;
 mod reading;
 mod reasons;
 mod streams;
+#[cfg(test)]
+mod tests;
 mod token;
 mod tokens;
 
