@@ -33,11 +33,6 @@ abbrev pub Puts : {X : Type 0} → List (List ℕ) → List FieldRange → Given
 Puts names fields code (Ok x) told = IsSome names fields code told
 Puts names fields code (Err why) told = (tree : TreeParts) → IsRefused names tree why told
 
--- what is given, or the first refusal
-abbrev pub Gives : List (List ℕ) → List FieldRange → Result Given LineFault → Result spec.Given fault.LineFault → Type 0
-Gives names fields (Ok code) told = IsSome names fields code told
-Gives names fields (Err why) told = (tree : TreeParts) → IsRefused names tree why told
-
 -- so far: what is left of the tokens gives behind it what all give
 pub record IsSoFar (names : List (List ℕ)) (fields : List FieldRange) (code : Given) (left all : List Token) : Type 0 where
   pub given : spec.Given

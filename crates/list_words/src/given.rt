@@ -26,7 +26,7 @@ ghost use Rattle.insn_tree.specs.declared.field_range.FieldRange.{FieldRange};
 ghost use Rattle.insn_tree.specs.Trees.{TreeParts};
 ghost use Rattle.list_words.specs.Names.{IsNameFor};
 ghost use Rattle.list_words.specs.Faults.{IsRefused};
-ghost use Rattle.list_words.specs.Givens.{IsGiven, Puts, Gives};
+ghost use Rattle.list_words.specs.Givens.{IsGiven, Puts};
 
 impl Given {
     /// Nothing.
@@ -103,18 +103,20 @@ impl Given {
     }
 }
 
-/// What the tokens behind a label give, by the fields of its leaf.
+/// Puts what the tokens behind a label give, by the fields of its leaf, where nothing is given yet. `given` is large, and so
+/// is filled in place.
 pub(crate) fn read_given(
     names: &Names,
     fields: &[FieldRange],
     tokens: Tokens<'_>,
-) -> Result<Given, LineFault>
-    requires { All (λ f. f.name.0 < length names.now) fields.now }
-    ensures { Gives names.now fields.now result (spec.given_behind spec.nothing tokens.entry) }
+    given: &mut Given,
+) -> Result<(), LineFault>
+    requires held { All (λ f. f.name.0 < length names.now) fields.now }
+    requires nothing { IsGiven names.now fields.now given.old spec.nothing }
+    ensures { Puts names.now fields.now given.new result (spec.given_behind spec.nothing tokens.entry) }
 {
-    let mut given = Given::nothing();
     for token in tokens {
         given.put(names, fields, &token)?;
     }
-    Ok(given)
+    Ok(())
 }

@@ -9,7 +9,7 @@ ghost use Rattle.list_words.specs.Faults.{Answers};
 ghost use Rattle.list_words.specs.Listers.{IsOneRelease, machine};
 
 use crate::encoding::encode_given;
-use crate::given::read_given;
+use crate::given::{Given, read_given};
 use crate::line_fault::{LineFault, LineWhy};
 use crate::lister::Lister;
 use crate::pair::NUMBER_BOUND;
@@ -85,7 +85,8 @@ fn read_fields(l: &Lister<'_>, at: u32, leaf: LeafId, tokens: Tokens<'_>) -> Res
     requires leaf { leaf.0 < length (leaves_of l.now.tree.now.nodes) }
     ensures { Answers l.now.names.now l.now.tree.now result (spec.of_given (machine l.now) at leaf.0 (given_behind nothing tokens.entry)) }
 {
-    let given = read_given(l.names, l.tree.fields(leaf), tokens)?;
+    let mut given = Given::nothing();
+    read_given(l.names, l.tree.fields(leaf), tokens, &mut given)?;
     match encode_given(l, leaf, &given) {
         Ok(w) => Ok(w),
         Err(fault) => refused(at, LineWhy::Encode(fault)),
