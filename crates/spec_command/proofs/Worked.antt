@@ -2,8 +2,12 @@
 use Rattle.std.specs.Prelude.{◌≡◌, [], ◌∷◌, true, false, Some, None, Ok, Err, codes, refl}
 use Rattle.spec_command.specs.Setting.{value_in}
 use Rattle.spec_command.specs.Pins.{pins_in}
-use Rattle.spec_command.specs.Commands.{AskList, AskAsm, AskLeaf, AskProof, leaf_command}
+use Rattle.spec_command.specs.Commands.{Configured, AskList, AskAsm, AskLeaf, AskConfig, AskProof, AskCheck, list_command, leaf_command, config_command, check_command}
 use Rattle.spec_command.specs.Request.{request}
+
+-- no document of features, and no pin
+abbrev unsaid : Configured
+unsaid = record { features = None; pins = [] }
 
 no_word : request [] ≡ Err 0
 no_word = refl
@@ -29,7 +33,7 @@ no_equals = refl
 empty_key : request (codes "list" ∷ codes "=x" ∷ []) ≡ Err 1
 empty_key = refl
 
-first_equals : request (codes "list" ∷ codes "insns=a=b" ∷ []) ≡ Ok (AskList (record { insns = codes "a=b"; isa = codes "A64" }) false 4294967296 [])
+first_equals : request (codes "list" ∷ codes "insns=a=b" ∷ []) ≡ Ok (AskList (record { insns = codes "a=b"; isa = codes "A64" }) false 4294967296 unsaid)
 first_equals = refl
 
 no_label : request (codes "leaf" ∷ codes "insns=i" ∷ []) ≡ Err 2
@@ -53,14 +57,64 @@ set_alone = refl
 
 -- several words may have the key of a pin, also with one value
 pins : request (codes "list" ∷ codes "on=B" ∷ codes "insns=i" ∷ codes "on=A" ∷ codes "on=B" ∷ [])
-    ≡ Ok (AskList (record { insns = codes "i"; isa = codes "A64" }) false 4294967296 (codes "B" ∷ codes "A" ∷ codes "B" ∷ []))
+    ≡ Ok (AskList (record { insns = codes "i"; isa = codes "A64" }) false 4294967296 (record { features = None; pins = (codes "B", true) ∷ (codes "A", true) ∷ (codes "B", true) ∷ [] }))
 pins = refl
 
+-- pins are on or off, by a document of features or without one
+pins_by_features : request (codes "list" ∷ codes "insns=i" ∷ codes "features=f" ∷ codes "off=A" ∷ codes "on=B" ∷ [])
+    ≡ Ok (AskList (record { insns = codes "i"; isa = codes "A64" }) false 4294967296 (record { features = Some (codes "f"); pins = (codes "A", false) ∷ (codes "B", true) ∷ [] }))
+pins_by_features = refl
+
+pinned_off : request (codes "list" ∷ codes "insns=i" ∷ codes "off=A" ∷ [])
+    ≡ Ok (AskList (record { insns = codes "i"; isa = codes "A64" }) false 4294967296 (record { features = None; pins = (codes "A", false) ∷ [] }))
+pinned_off = refl
+
+lines_by_features : request (codes "asm" ∷ codes "off=A" ∷ codes "features=f" ∷ codes "insns=i" ∷ [])
+    ≡ Ok (AskAsm (record { insns = codes "i"; isa = codes "A64" }) 4294967296 (record { features = Some (codes "f"); pins = (codes "A", false) ∷ [] }))
+lines_by_features = refl
+
+features_twice : request (codes "list" ∷ codes "features=f" ∷ codes "insns=i" ∷ codes "features=g" ∷ []) ≡ Err 3
+features_twice = refl
+
+no_name_off : request (codes "config" ∷ codes "off=a,b" ∷ codes "features=f" ∷ []) ≡ Err 1
+no_name_off = refl
+
+a_configuration : request (codes "config" ∷ codes "features=f" ∷ codes "on=A" ∷ []) ≡ Ok (AskConfig (codes "f") ((codes "A", true) ∷ []))
+a_configuration = refl
+
+features_alone : request (codes "config" ∷ codes "features=f" ∷ []) ≡ Ok (AskConfig (codes "f") [])
+features_alone = refl
+
+no_features : request (codes "config" ∷ codes "on=A" ∷ []) ≡ Err 2
+no_features = refl
+
+no_set_of_features : request (codes "config" ∷ codes "features=f" ∷ codes "isa=A64" ∷ []) ≡ Err 2
+no_set_of_features = refl
+
+-- one of two documents is checked at least
+both_checked : request (codes "check" ∷ codes "insns=i" ∷ codes "features=f" ∷ []) ≡ Ok (AskCheck (record { insns = Some (codes "i"); isa = codes "A64"; features = Some (codes "f") }))
+both_checked = refl
+
+set_checked : request (codes "check" ∷ codes "isa=A" ∷ codes "insns=i" ∷ []) ≡ Ok (AskCheck (record { insns = Some (codes "i"); isa = codes "A"; features = None }))
+set_checked = refl
+
+features_checked : request (codes "check" ∷ codes "features=f" ∷ codes "isa=A" ∷ []) ≡ Ok (AskCheck (record { insns = None; isa = codes "A"; features = Some (codes "f") }))
+features_checked = refl
+
+nothing_checked : request (codes "check" ∷ []) ≡ Err 1
+nothing_checked = refl
+
+no_document_checked : request (codes "check" ∷ codes "isa=A" ∷ []) ≡ Err 2
+no_document_checked = refl
+
+no_pins_of_a_check : request (codes "check" ∷ codes "features=f" ∷ codes "on=A" ∷ []) ≡ Err 2
+no_pins_of_a_check = refl
+
 -- lines are full or bare, and a limit is a number up to 2^40
-bare_lines : request (codes "list" ∷ codes "insns=i" ∷ codes "max=0x10" ∷ codes "form=bare" ∷ []) ≡ Ok (AskList (record { insns = codes "i"; isa = codes "A64" }) true 16 [])
+bare_lines : request (codes "list" ∷ codes "insns=i" ∷ codes "max=0x10" ∷ codes "form=bare" ∷ []) ≡ Ok (AskList (record { insns = codes "i"; isa = codes "A64" }) true 16 unsaid)
 bare_lines = refl
 
-full_lines : request (codes "list" ∷ codes "form=full" ∷ codes "max=1099511627776" ∷ codes "insns=i" ∷ []) ≡ Ok (AskList (record { insns = codes "i"; isa = codes "A64" }) false 1099511627776 [])
+full_lines : request (codes "list" ∷ codes "form=full" ∷ codes "max=1099511627776" ∷ codes "insns=i" ∷ []) ≡ Ok (AskList (record { insns = codes "i"; isa = codes "A64" }) false 1099511627776 unsaid)
 full_lines = refl
 
 other_form : request (codes "list" ∷ codes "form=Bare" ∷ codes "insns=i" ∷ []) ≡ Err 1
@@ -72,7 +126,7 @@ past_the_limit = refl
 no_number : request (codes "asm" ∷ codes "insns=i" ∷ codes "max=1k" ∷ []) ≡ Err 2
 no_number = refl
 
-lines_in : request (codes "asm" ∷ codes "on=A" ∷ codes "insns=i" ∷ codes "max=0" ∷ []) ≡ Ok (AskAsm (record { insns = codes "i"; isa = codes "A64" }) 0 (codes "A" ∷ []))
+lines_in : request (codes "asm" ∷ codes "on=A" ∷ codes "insns=i" ∷ codes "max=0" ∷ []) ≡ Ok (AskAsm (record { insns = codes "i"; isa = codes "A64" }) 0 (record { features = None; pins = (codes "A", true) ∷ [] }))
 lines_in = refl
 
 no_form_of_asm : request (codes "asm" ∷ codes "insns=i" ∷ codes "form=bare" ∷ []) ≡ Err 2
@@ -89,6 +143,15 @@ bad_before_missing : request (codes "list" ∷ codes "isa=X" ∷ codes "label=x"
 bad_before_missing = refl
 
 -- the keys of a command are those that its request is made of
+list_keys : list_command.asks.keys ≡ codes "insns" ∷ codes "isa" ∷ codes "form" ∷ codes "max" ∷ codes "features" ∷ codes "on" ∷ codes "off" ∷ []
+list_keys = refl
+
+config_keys : config_command.asks.keys ≡ codes "features" ∷ codes "on" ∷ codes "off" ∷ []
+config_keys = refl
+
+check_keys : check_command.asks.keys ≡ codes "insns" ∷ codes "isa" ∷ codes "features" ∷ []
+check_keys = refl
+
 leaf_keys : leaf_command.asks.keys ≡ codes "insns" ∷ codes "isa" ∷ codes "label" ∷ []
 leaf_keys = refl
 

@@ -1,25 +1,39 @@
 -- The commands: the word that says each, its keys, and what it asks for. The rules are this project's own.
-use Rattle.std.specs.Prelude.{ℕ, Bool, true, false, List, [], ◌∷◌, Option, Some, None, is_some, codes, bytes_eq, if◌then◌else◌}
+use Rattle.std.specs.Prelude.{ℕ, Bool, true, false, ◌||◌, List, [], ◌∷◌, Option, Some, None, is_some, codes, bytes_eq, if◌then◌else◌}
 use Rattle.std.specs.List.{list_any}
 use Rattle.spec_names.specs.Name.{is_name}
 use Rattle.spec_command.specs.Number.{number_below}
-use Rattle.spec_command.specs.Pins.{pin_keys}
-use Rattle.spec_command.specs.Ask.{Ask, needed, may_say, may_be, every, made_into, together, handed}
+use Rattle.spec_command.specs.Pins.{Pin, pin_keys, pins}
+use Rattle.spec_command.specs.Ask.{Ask, needed, may_say, may_be, optional, made_into, together, handed, provided}
 
 -- the set of instructions of a document: the document's name, and that of the set
 pub record Release : Type 0 where
   pub insns : List ℕ
   pub isa : List ℕ
 
+-- what settles the features: the Features document of that name, where one is named, and the pins in the order of the words
+pub record Configured : Type 0 where
+  pub features : Option (List ℕ)
+  pub pins : List Pin
+
+-- the documents that are checked, each by its name where it is named: that of a set of instructions with the set's name, and one
+-- of features
+pub record Checks : Type 0 where
+  pub insns : Option (List ℕ)
+  pub isa : List ℕ
+  pub features : Option (List ℕ)
+
 -- what a command asks for: one value for each command
 pub data Request : Type 0 where
-  -- whether the lines are bare, at most how many bytes of the stream are taken, and the names of the features that are on, in
-  -- the order of the words
-  AskList : Release → Bool → ℕ → List (List ℕ) → Request
-  -- at most how many bytes of the stream are taken, and those names
-  AskAsm : Release → ℕ → List (List ℕ) → Request
+  -- whether the lines are bare, and at most how many bytes of the stream are taken
+  AskList : Release → Bool → ℕ → Configured → Request
+  -- at most how many bytes of the stream are taken
+  AskAsm : Release → ℕ → Configured → Request
   AskLeaf : Release → List ℕ → Request
+  -- the name of a Features document, and the pins
+  AskConfig : List ℕ → List Pin → Request
   AskProof : List ℕ → Request
+  AskCheck : Checks → Request
 
 -- a command: the word that says it, and what it asks of the settings behind it
 pub record Command : Type 0 where
@@ -44,24 +58,44 @@ limit_by text = number_below 1099511627777 text
 abbrev pub limit : Ask ℕ
 limit = may_be (codes "max") limit_by 4294967296
 
+-- `features`, which may be missing, and the pins
+abbrev pub configured : Ask Configured
+configured = together (λ features pins. record { features = features; pins = pins }) (optional (codes "features")) pins
+
+-- at least one of the documents is named
+abbrev pub names_one : Checks → Bool
+names_one checks = is_some checks.insns || is_some checks.features
+
+-- `insns`, `isa`, which is `A64` where no setting says it, and `features`. Each may be missing, but not both documents
+abbrev pub checks : Ask Checks
+checks = provided names_one (handed (together (λ insns isa features. record { insns = insns; isa = isa; features = features }) (optional (codes "insns")) (may_say (codes "isa") (codes "A64"))) (optional (codes "features")))
+
 -- lists the words of a stream
 abbrev pub list_command : Command
-list_command = record { word = codes "list"; asks = handed (handed (handed (made_into (λ from bare most on. AskList from bare most on) release) form) limit) (every (codes "on")) }
+list_command = record { word = codes "list"; asks = handed (handed (handed (made_into (λ from bare most by. AskList from bare most by) release) form) limit) configured }
 
 -- assembles the lines of a stream
 abbrev pub asm_command : Command
-asm_command = record { word = codes "asm"; asks = handed (handed (made_into (λ from most on. AskAsm from most on) release) limit) (every (codes "on")) }
+asm_command = record { word = codes "asm"; asks = handed (handed (made_into (λ from most by. AskAsm from most by) release) limit) configured }
 
 -- shows one leaf
 abbrev pub leaf_command : Command
 leaf_command = record { word = codes "leaf"; asks = together AskLeaf release (needed (codes "label")) }
 
+-- tells the first configuration that fits
+abbrev pub config_command : Command
+config_command = record { word = codes "config"; asks = together AskConfig (needed (codes "features")) pins }
+
 -- checks a log
 abbrev pub proof_command : Command
 proof_command = record { word = codes "proof"; asks = made_into AskProof (needed (codes "log")) }
 
+-- checks documents
+abbrev pub check_command : Command
+check_command = record { word = codes "check"; asks = made_into AskCheck checks }
+
 abbrev pub commands : List Command
-commands = list_command ∷ asm_command ∷ leaf_command ∷ proof_command ∷ []
+commands = list_command ∷ asm_command ∷ leaf_command ∷ config_command ∷ proof_command ∷ check_command ∷ []
 
 -- the most pins
 abbrev pub pin_limit : ℕ

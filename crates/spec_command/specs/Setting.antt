@@ -17,8 +17,3 @@ settings_in words = filter_map setting_in words
 abbrev pub value_in : List ℕ → List (List ℕ × List ℕ) → Option (List ℕ)
 value_in key [] = None
 value_in key (pair ∷ pairs) = if bytes_eq key pair.0 then Some pair.1 else value_in key pairs
-
--- the values of all settings with that key, in their order
-abbrev pub values_in : List ℕ → List (List ℕ × List ℕ) → List (List ℕ)
-values_in key [] = []
-values_in key (pair ∷ pairs) = if bytes_eq key pair.0 then pair.1 ∷ values_in key pairs else values_in key pairs

@@ -6,6 +6,8 @@ pub mod PairLaws
 pub mod ReadBackLaws
 pub mod StreamsBack
 pub mod ReadableLaws
+pub mod AliasCounts
+pub mod SoundAliasLaws
 pub mod Streams
 pub mod StreamLines
 pub mod CutLaws
@@ -13,3 +15,4 @@ pub mod EncodedLaws
 pub mod Worked
 pub mod WorkedLines
 pub mod WorkedAssembly
+pub mod WorkedAliases

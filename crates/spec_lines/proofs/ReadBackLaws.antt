@@ -1,5 +1,5 @@
 -- Bare lines are read back to their words.
-use Rattle.std.proofs.Common.{◌≡◌, ◌∙◌, ap, sym, refl, subst, ℕ, ◌+◌, ◌-◌, ◌*◌, ◌/◌, ◌%◌, ◌^◌, ◌≤◌, ◌<◌, List, [], ◌∷◌, ◌++◌, length, map, replicate, Bool, true, false, not, ◌&&◌, ◌||◌, ◌==◌, cond, nat_eq, nat_lt, nat_le, Some, Ok, bytes_eq, codes, decimal, All, arith, append_assoc, append-nil, length-append}
+use Rattle.std.proofs.Common.{◌≡◌, ◌∙◌, ap, sym, refl, ℕ, suc, ◌+◌, ◌-◌, ◌*◌, ◌/◌, ◌%◌, ◌^◌, ◌≤◌, ◌<◌, List, [], ◌∷◌, ◌++◌, length, map, replicate, Bool, true, false, not, ◌&&◌, ◌||◌, ◌==◌, cond, nat_eq, nat_lt, nat_le, Option, Some, Ok, bytes_eq, codes, decimal, option_map, All, arith, append_assoc, append-nil, length-append}
 use Rattle.std.specs.Prelude.{flat_map, slice_index_or}
 use Rattle.std.specs.List.{list_all}
 use Rattle.std.specs.Fmt.{digits, digit_glyph}
@@ -14,7 +14,8 @@ use Rattle.spec_bits.specs.Bits.{bit_of, slice}
 use Rattle.spec_instructions.specs.Name.{is_name, is_name_byte}
 use Rattle.spec_instructions.specs.Tree.{Own}
 use Rattle.spec_instructions.specs.Fields.{Field}
-use Rattle.spec_instructions.specs.Paths.{path_name, namesakes, labelled, label, labelled_leaf}
+use Rattle.spec_instructions.specs.Paths.{path_name, namesakes, labelled, label, labelled_path}
+use Rattle.spec_instructions.specs.Aliases.{alias_path, alias_paths}
 use Rattle.spec_instructions.proofs.LabelLaws.{labels_tell_leaves}
 use Rattle.spec_decode.specs.Found.{Candidate, found}
 use Rattle.spec_decode.specs.Machine.{Machine}
@@ -26,15 +27,16 @@ use Rattle.spec_encoding.proofs.BitLaws.{number_of_bits-lt}
 use Rattle.spec_command.specs.Setting.{is_equals}
 use Rattle.spec_lines.specs.Hex.{hex}
 use Rattle.spec_lines.specs.Pairs.{pair_text, rest_text, pairs_text}
-use Rattle.spec_lines.specs.BareLine.{bare_leaves, word_text}
-use Rattle.spec_lines.specs.Token.{tokens}
+use Rattle.spec_lines.specs.Way.{Way, ByLeaf, ByAlias, way_path, way_of}
+use Rattle.spec_lines.specs.BareLine.{bare_way, bare_leaves, word_text}
+use Rattle.spec_lines.specs.Token.{Token, tokens}
 use Rattle.spec_lines.specs.Parsed.{parsed, of_tokens, number_alone, of_label, of_given, encoded_at}
-use Rattle.spec_lines.specs.ReadBack.{IsNamed, IsReadablePath, BareLinesAreRead}
+use Rattle.spec_lines.specs.ReadBack.{IsNamed, IsReadablePath, IsReadable, BareLinesAreRead}
 use Rattle.spec_lines.proofs.ByteLaws.{name_all, hex_all, text_all}
 use Rattle.spec_lines.proofs.NumberLaws.{digits_few, hex_said}
 use Rattle.spec_lines.proofs.TokenLaws.{is_solid, is_run, spaced, placed, front-tokens}
-use Rattle.spec_lines.proofs.PairLaws.{has_no_equals, pair_token, IsPlain, ArePlain, no_pairs, one_pair, rest_tokens, with_rest_said, all_given, rest_is}
-use Rattle.spec_lines.proofs.EncodedLaws.{lone_is}
+use Rattle.spec_lines.proofs.PairLaws.{has_no_equals, pair_token, IsPlain, ArePlain, no_pairs, one_pair, rest_tokens, all_given, rest_is}
+use Rattle.spec_lines.proofs.EncodedLaws.{IsTold, lone_told, way_formed}
 
 -- ---- bytes of names and numbers
 
@@ -206,13 +208,16 @@ fields_spaced path w =
     ap (λ xs. xs ++ rest_text (rest_of path w)) (pairs_spaced (own_pairs path w)) ∙ ap (λ xs. spaced (map pair_token (own_pairs path w)) ++ xs) (rest_spaced (rest_of path w))
     ∙ sym (spaced-append (map pair_token (own_pairs path w)) (rest_tokens (rest_of path w)))
 
-module _ (machine : Machine) (w : ℕ) (small : w < 2 ^ 32) (k : ℕ) (path : List Own) (told : labelled_leaf machine.paths (label machine.paths k) ≡ Some k) (at : slice_index_or machine.paths k [] ≡ path)
-    (readable : IsReadablePath path) (encoded : encoding path machine.configuration (own_pairs path w) (rest_of path w) ≡ Ok w) where
+-- what a line tells along one of these paths, of leaves or of aliases
+module _ (machine : Machine) (w : ℕ) (small : w < 2 ^ 32) (paths : List (List Own)) (k : ℕ) (readable : IsReadablePath (slice_index_or paths k [])) where
+  abbrev path : List Own
+  path = slice_index_or paths k []
+
   abbrev name : List ℕ
-  name = label machine.paths k
+  name = label paths k
 
   printed : IsPrinted name
-  printed = labelled_printed (namesakes (path_name (slice_index_or machine.paths k [])) machine.paths) (path_name (slice_index_or machine.paths k [])) k (subst (λ (p : List Own). IsNameText (path_name p)) (sym at) (name_text (path_name path) readable.label))
+  printed = labelled_printed (namesakes (path_name path) paths) (path_name path) k (name_text (path_name path) readable.label)
 
   runs : list_all is_run (name ∷ field_tokens path w) ≡ true
   runs =
@@ -220,44 +225,71 @@ module _ (machine : Machine) (w : ℕ) (small : w < 2 ^ 32) (k : ℕ) (path : Li
       ∙ list_all-append is_run (map pair_token (own_pairs path w)) (rest_tokens (rest_of path w))
       ∙ ap (λ v. v && list_all is_run (rest_tokens (rest_of path w))) (tokens_run w (shown path) readable.fields) ∙ rest_run (rest_of path w)
 
-  text_few : length (codes "leaf " ++ (name ++ pairs_text path w)) ≤ 65536
-  text_few =
-      let size : length (pairs_text path w) ≡ length (spaced (map pair_token (own_pairs path w)) ++ spaced (rest_tokens (rest_of path w))) = ap length (fields_spaced path w ∙ spaced-append (map pair_token (own_pairs path w)) (rest_tokens (rest_of path w))) in
-      let both = length-append (spaced (map pair_token (own_pairs path w))) (spaced (rest_tokens (rest_of path w))) in
-      let pairs = tokens_few w (shown path) readable.fields in
-      omega (arith, size, both, pairs, rest_few (rest_of path w), length-append name (pairs_text path w), printed.few, readable.few)
+  few_pairs : length (own_pairs path w) ≤ 256
+  few_pairs = omega (arith, length-map {B = List ℕ × ℕ} (shown path) (λ (f : Field). (f.name, slice w f.start f.width)), readable.few)
 
-  line_tokens : tokens (codes "leaf " ++ (name ++ pairs_text path w)) ≡ record { at = 0; text = codes "leaf" } ∷ record { at = 5; text = name } ∷ placed (5 + length name) (field_tokens path w)
-  line_tokens = ap (λ xs. tokens (codes "leaf " ++ (name ++ xs))) (fields_spaced path w) ∙ front-tokens 108 (codes "eaf") (name ∷ field_tokens path w) refl runs
+  -- behind a head of one token
+  module _ (byte : ℕ) (bytes : List ℕ) where
+    abbrev text : List ℕ
+    text = (byte ∷ bytes) ++ (32 ∷ (name ++ pairs_text path w))
 
-  given_is : of_given machine 5 k (Ok (with_rest_said (own_pairs path w) (rest_of path w))) ≡ Ok w
-  given_is =
-      ap (λ r. encoded_at 5 k (encoding (slice_index_or machine.paths k []) machine.configuration (own_pairs path w) r)) (rest_is (rest_of path w))
-      ∙ ap (λ (p : List Own). encoded_at 5 k (encoding p machine.configuration (own_pairs path w) (rest_of path w))) at
-      ∙ ap (encoded_at 5 k) encoded
+    text_few : length bytes ≤ 8 → length text ≤ 65536
+    text_few short_head =
+        let size : length (pairs_text path w) ≡ length (spaced (map pair_token (own_pairs path w)) ++ spaced (rest_tokens (rest_of path w))) = ap length (fields_spaced path w ∙ spaced-append (map pair_token (own_pairs path w)) (rest_tokens (rest_of path w))) in
+        let both = length-append (spaced (map pair_token (own_pairs path w))) (spaced (rest_tokens (rest_of path w))) in
+        let pairs = tokens_few w (shown path) readable.fields in
+        let line = length-append (byte ∷ bytes) (32 ∷ (name ++ pairs_text path w)) in
+        omega (arith, short_head, line, size, both, pairs, rest_few (rest_of path w), length-append name (pairs_text path w), printed.few, readable.few)
 
-  leaf_read : parsed machine (codes "leaf " ++ (name ++ pairs_text path w)) ≡ Ok w
-  leaf_read =
-      let few : length (own_pairs path w) ≤ 256 = omega (arith, length-map {B = List ℕ × ℕ} (shown path) (λ (f : Field). (f.name, slice w f.start f.width)), readable.few) in
-      short machine (codes "leaf " ++ (name ++ pairs_text path w)) text_few
-      ∙ ap (of_tokens machine (length (codes "leaf " ++ (name ++ pairs_text path w)))) line_tokens
-      ∙ ap (of_label machine 5 (placed (5 + length name) (field_tokens path w))) told
-      ∙ ap (of_given machine 5 k) (all_given (5 + length name) (rest_of path w) (own_pairs path w) (all_plain w small (shown path) readable.fields) few (rest_small path w))
-      ∙ given_is
+    -- the tokens behind the label
+    abbrev behind : List Token
+    behind = placed (0 + suc (length bytes) + 1 + length name) (field_tokens path w)
+
+    line_tokens : is_run (byte ∷ bytes) ≡ true → tokens text ≡ record { at = 0; text = byte ∷ bytes } ∷ record { at = 0 + suc (length bytes) + 1; text = name } ∷ behind
+    line_tokens run = ap (λ xs. tokens ((byte ∷ bytes) ++ (32 ∷ (name ++ xs)))) (fields_spaced path w) ∙ front-tokens byte bytes (name ∷ field_tokens path w) run runs
+
+    line_says : is_run (byte ∷ bytes) ≡ true → length bytes ≤ 8 → parsed machine text ≡ of_tokens machine (length text) (record { at = 0; text = byte ∷ bytes } ∷ record { at = 0 + suc (length bytes) + 1; text = name } ∷ behind)
+    line_says run short_head = short machine text (text_few short_head) ∙ ap (of_tokens machine (length text)) (line_tokens run)
+
+    -- where the label finds the path again
+    label_read : (at : ℕ) (by : ℕ → Way) → way_path machine (by k) ≡ path → labelled_path paths name ≡ Some k → encoding path machine.configuration (own_pairs path w) (rest_of path w) ≡ Ok w
+        → of_label machine at behind (option_map by (labelled_path paths name)) ≡ Ok w
+    label_read at by same told encoded =
+        ap (λ (o : Option ℕ). of_label machine at behind (option_map by o)) told
+        ∙ ap (of_given machine at (by k)) (all_given (0 + suc (length bytes) + 1 + length name) (rest_of path w) (own_pairs path w) (all_plain w small (shown path) readable.fields) few_pairs (rest_small path w))
+        ∙ ap (λ r. encoded_at at (by k) (encoding (way_path machine (by k)) machine.configuration (own_pairs path w) r)) (rest_is (rest_of path w))
+        ∙ ap (λ (p : List Own). encoded_at at (by k) (encoding p machine.configuration (own_pairs path w) (rest_of path w))) same
+        ∙ ap (encoded_at at (by k)) encoded
+
+-- the labels of readable paths tell them apart
+found_again : (paths : List (List Own)) (k : ℕ) → length paths ≤ 65536 → All IsReadablePath paths → k < length paths → labelled_path paths (label paths k) ≡ Some k
+found_again paths k few readable within = (labels_tell_leaves paths few (λ j d lt. (readable j d lt).label)).found k within
+
+few_aliases : (machine : Machine) → IsReadable machine → length (alias_paths machine.aliases) ≤ 65536
+few_aliases machine h = omega (arith, h.few_aliases, length-map {B = List Own} machine.aliases alias_path)
+
+-- a line by a leaf or an alias
+way_read : (machine : Machine) (w : ℕ) → w < 2 ^ 32 → IsReadable machine → (way : Way) → IsTold machine w way → parsed machine (bare_way machine w way) ≡ Ok w
+way_read machine w small h (ByLeaf k) told =
+    let readable = h.paths k [] told.within in
+    let path : List Own = slice_index_or machine.paths k [] in
+    let formed = way_formed machine w (ByLeaf k) h.formed told in
+    let encoded = (encoding_is_exact path machine.configuration (own_pairs path w) (rest_of path w) w formed (rest_small path w)).1 (own_pairs_encode path machine.configuration w formed small told.verdict_is) in
+    line_says machine w small machine.paths k readable 108 (codes "eaf") refl (omega arith)
+    ∙ label_read machine w small machine.paths k readable 108 (codes "eaf") 5 ByLeaf refl (found_again machine.paths k h.few h.paths told.within) encoded
+way_read machine w small h (ByAlias a) told =
+    let paths : List (List Own) = alias_paths machine.aliases in
+    let readable = h.aliases a [] told.within in
+    let path : List Own = slice_index_or paths a [] in
+    let formed = way_formed machine w (ByAlias a) h.formed told in
+    let encoded = (encoding_is_exact path machine.configuration (own_pairs path w) (rest_of path w) w formed (rest_small path w)).1 (own_pairs_encode path machine.configuration w formed small told.verdict_is) in
+    line_says machine w small paths a readable 97 (codes "lias") refl (omega arith)
+    ∙ label_read machine w small paths a readable 97 (codes "lias") 6 ByAlias refl (found_again paths a (few_aliases machine h) h.aliases told.within) encoded
 
 pub bare_lines_are_read : BareLinesAreRead
 bare_lines_are_read machine w small h = go (found machine.paths machine.configuration w) refl
   where
-    lone : (c : Candidate) → found machine.paths machine.configuration w ≡ c ∷ [] → parsed machine (bare_leaves machine.paths w (c ∷ [])) ≡ Ok w
-    lone c is =
-        let one = lone_is machine.paths machine.configuration w c is in
-        let path : List Own = slice_index_or machine.paths c.leaf [] in
-        let formed = h.within c.leaf [] one.within in
-        let told = (labels_tell_leaves machine.paths h.few (λ j d lt. (h.paths j d lt).label)).found c.leaf one.within in
-        let own = own_pairs_encode path machine.configuration w formed small one.verdict_is in
-        leaf_read machine w small c.leaf path told refl (h.paths c.leaf [] one.within) ((encoding_is_exact path machine.configuration (own_pairs path w) (rest_of path w) w formed (rest_small path w)).1 own)
-
-    go : (cs : List Candidate) → found machine.paths machine.configuration w ≡ cs → parsed machine (bare_leaves machine.paths w cs) ≡ Ok w
+    go : (cs : List Candidate) → found machine.paths machine.configuration w ≡ cs → parsed machine (bare_leaves machine w cs) ≡ Ok w
     go [] is = word_read machine w small
-    go (c ∷ []) is = lone c is
+    go (c ∷ []) is = way_read machine w small h (way_of machine c.leaf w) (lone_told machine w c h.formed.below is)
     go (c ∷ d ∷ cs) is = word_read machine w small

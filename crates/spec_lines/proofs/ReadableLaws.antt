@@ -1,4 +1,4 @@
--- The paths of documents without faults have lines that can be read back.
+-- The leaves and aliases of documents without faults have lines that can be read back.
 use Rattle.std.proofs.Common.{◌≡◌, ◌≢◌, sym, subst, ℕ, ◌+◌, ◌≤◌, List, [], ◌∷◌, length, Bool, true, false, not, ◌||◌, cond, Option, Some, None, is_some, bytes_eq, codes, All, arith}
 use Rattle.std.specs.Prelude.{count_by, IfSome}
 use Rattle.std.specs.List.{list_any}
@@ -10,6 +10,8 @@ use Rattle.spec_bits.specs.Item.{Item}
 use Rattle.spec_instructions.specs.Name.{is_name}
 use Rattle.spec_instructions.specs.Encodeset.{is_field_name}
 use Rattle.spec_instructions.specs.Paths.{path_items}
+use Rattle.spec_instructions.specs.Tree.{Own}
+use Rattle.spec_instructions.specs.Aliases.{alias_paths}
 use Rattle.spec_instructions.specs.Shape.{IsSoundItem}
 use Rattle.spec_instructions.specs.Fields.{is_named, visible_item, visible, fields, IsWithinWord}
 use Rattle.spec_instructions.specs.SoundPaths.{IsSoundPath}
@@ -62,9 +64,18 @@ sound_paths_are_readable path h = record {
   fields = All-filter (is_shown path) IsNamed (fields path) (visible_named (path_items path) (All-weaker IsSoundItem IsFieldItem (λ it is. is.name) (path_items path) h.items));
 }
 
+sound-formed : (path : List Own) → IsSoundPath path → IsFormed path
+sound-formed path sound = All-weaker IsSoundItem IsWithinWord (λ it is. is.fits) (path_items path) sound.items
+
 pub sound_machines_are_readable : SoundMachinesAreReadable
-sound_machines_are_readable machine h = record {
-  few = h.few;
-  within = All-weaker IsSoundPath IsFormed (λ path sound. All-weaker IsSoundItem IsWithinWord (λ it is. is.fits) (path_items path) sound.items) machine.paths h.each;
-  paths = All-weaker IsSoundPath IsReadablePath sound_paths_are_readable machine.paths h.each;
+sound_machines_are_readable machine leaves aliases = record {
+  few = leaves.few;
+  few_aliases = aliases.few;
+  formed = record {
+    paths = All-weaker IsSoundPath IsFormed sound-formed machine.paths leaves.each;
+    aliases = All-weaker IsSoundPath IsFormed sound-formed (alias_paths machine.aliases) aliases.each;
+    below = aliases.below;
+  };
+  paths = All-weaker IsSoundPath IsReadablePath sound_paths_are_readable machine.paths leaves.each;
+  aliases = All-weaker IsSoundPath IsReadablePath sound_paths_are_readable (alias_paths machine.aliases) aliases.each;
 }

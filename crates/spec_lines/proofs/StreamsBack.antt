@@ -13,21 +13,23 @@ use Rattle.spec_instructions.specs.Name.{is_name, is_name_byte}
 use Rattle.spec_instructions.specs.Tree.{Own}
 use Rattle.spec_instructions.specs.Fields.{Field}
 use Rattle.spec_instructions.specs.Paths.{path_name, namesakes, label}
+use Rattle.spec_instructions.specs.Aliases.{alias_paths}
 use Rattle.spec_decode.specs.Found.{Candidate, found}
 use Rattle.spec_decode.specs.Machine.{Machine}
 use Rattle.spec_encoding.specs.PathLayout.{shown, rest_of}
 use Rattle.spec_encoding.specs.Encoding.{own_pairs}
 use Rattle.spec_lines.specs.Hex.{hex}
 use Rattle.spec_lines.specs.Pairs.{pair_text, rest_text, pairs_text}
-use Rattle.spec_lines.specs.BareLine.{bare_text, bare_leaves, word_text}
+use Rattle.spec_lines.specs.Way.{Way, ByLeaf, ByAlias, way_of}
+use Rattle.spec_lines.specs.BareLine.{bare_text, bare_way, bare_leaves, word_text}
 use Rattle.spec_lines.specs.Words.{words_in, rest_in}
 use Rattle.spec_lines.specs.Streams.{Bare, word_lines, bytes_line}
 use Rattle.spec_lines.specs.LineFault.{LineFault}
 use Rattle.spec_lines.specs.Parsed.{parsed}
 use Rattle.spec_lines.specs.Assembly.{lines_in, before_lines, before_assembled, assembled_from, assembled}
-use Rattle.spec_lines.specs.ReadBack.{IsNamed, IsReadable, BareStreamsAreRead}
+use Rattle.spec_lines.specs.ReadBack.{IsNamed, IsReadablePath, IsReadable, BareStreamsAreRead}
 use Rattle.spec_lines.proofs.ByteLaws.{name_all, both_all, hex_all, text_all, labelled_all}
-use Rattle.spec_lines.proofs.EncodedLaws.{lone_is}
+use Rattle.spec_lines.proofs.EncodedLaws.{IsTold, lone_told}
 use Rattle.spec_lines.proofs.ReadBackLaws.{bare_lines_are_read}
 
 -- ---- lines hold no LF
@@ -76,25 +78,27 @@ record IsLine (text : List ℕ) : Type 0 where
   some : 0 < length text
   inner : list_all is_inner text ≡ true
 
+-- what is written along one of these paths, of leaves or of aliases
+written_inner : (paths : List (List Own)) (k w : ℕ) → IsReadablePath (slice_index_or paths k []) → list_all is_inner (label paths k ++ pairs_text (slice_index_or paths k []) w) ≡ true
+written_inner paths k w readable =
+    let path : List Own = slice_index_or paths k [] in
+    let named = labelled_all is_inner glyph_inner (namesakes (path_name path) paths) (path_name path) k refl (name_is_inner (path_name path) readable.label) in
+    let pairs = both_inner (flat_map pair_text (own_pairs path w)) (rest_text (rest_of path w)) (pairs_inner w (shown path) readable.fields) (rest_inner (rest_of path w)) in
+    both_inner (label paths k) (pairs_text path w) named pairs
+
+way_is : (machine : Machine) (w : ℕ) → IsReadable machine → (way : Way) → IsTold machine w way → IsLine (bare_way machine w way)
+way_is machine w h (ByLeaf k) told = record { some = omega arith; inner = written_inner machine.paths k w (h.paths k [] told.within) }
+way_is machine w h (ByAlias a) told = record { some = omega arith; inner = written_inner (alias_paths machine.aliases) a w (h.aliases a [] told.within) }
+
 text_is : (machine : Machine) (w : ℕ) → IsReadable machine → IsLine (bare_text machine w)
 text_is machine w h = go (found machine.paths machine.configuration w) refl
   where
-    lone : (c : Candidate) → found machine.paths machine.configuration w ≡ c ∷ [] → IsLine (bare_leaves machine.paths w (c ∷ []))
-    lone c is =
-        let one = lone_is machine.paths machine.configuration w c is in
-        let path : List Own = slice_index_or machine.paths c.leaf [] in
-        let readable = h.paths c.leaf [] one.within in
-        let name : List ℕ = label machine.paths c.leaf in
-        let named = labelled_all is_inner glyph_inner (namesakes (path_name path) machine.paths) (path_name path) c.leaf refl (name_is_inner (path_name path) readable.label) in
-        let pairs = both_inner (flat_map pair_text (own_pairs path w)) (rest_text (rest_of path w)) (pairs_inner w (shown path) readable.fields) (rest_inner (rest_of path w)) in
-        record { some = omega arith; inner = both_inner name (pairs_text path w) named pairs }
-
     word : IsLine (word_text w)
     word = record { some = omega arith; inner = hex_inner 8 w }
 
-    go : (cs : List Candidate) → found machine.paths machine.configuration w ≡ cs → IsLine (bare_leaves machine.paths w cs)
+    go : (cs : List Candidate) → found machine.paths machine.configuration w ≡ cs → IsLine (bare_leaves machine w cs)
     go [] is = word
-    go (c ∷ []) is = lone c is
+    go (c ∷ []) is = way_is machine w h (way_of machine c.leaf w) (lone_told machine w c h.formed.below is)
     go (c ∷ d ∷ cs) is = word
 
 -- ---- lines

@@ -1,5 +1,5 @@
 -- Worked values: lines over two small leaves.
-use Rattle.std.specs.Prelude.{◌≡◌, ℕ, List, [], ◌∷◌, ◌++◌, None, Some, map, false, codes, refl}
+use Rattle.std.specs.Prelude.{◌≡◌, ℕ, List, [], ◌∷◌, None, Some, map, false, codes, refl}
 use Rattle.std.specs.Fmt.{digits}
 use Rattle.spec_bits.specs.Pattern.{Digit, Zero, One}
 use Rattle.spec_bits.specs.Item.{Item}
@@ -28,6 +28,7 @@ machine = record {
       ∷ (record (bare Leaf (codes "FEATURED")) { items = bits 28 (One ∷ One ∷ One ∷ One ∷ []) ∷ []; condition = Some (Name (codes "FEAT_A")) } ∷ [])
       ∷ leaf (codes "ALL_ONES") (bits 24 (One ∷ One ∷ One ∷ One ∷ One ∷ One ∷ One ∷ One ∷ []) ∷ [])
       ∷ [];
+  aliases = [];
 }
 
 two_leaves : full_line machine 0x1_0000_0000 0 ≡ codes "100000000 00000000 many DUP#1 yes DUP#2 yes\n"

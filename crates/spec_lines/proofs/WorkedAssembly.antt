@@ -63,11 +63,12 @@ abbrev machine : Machine
 machine = record {
   configuration = record { parameters = record { name = codes "FEAT_AES"; state = Flag false } ∷ []; atoms = [] };
   paths = add ∷ ret ∷ load ∷ twin ∷ aese ∷ (leaf (codes "DUP") [] ∷ []) ∷ (leaf (codes "DUP") [] ∷ []) ∷ [];
+  aliases = [];
 }
 
 -- the word of a line, or the place and the reason
 abbrev said : List ℕ → Result ℕ (ℕ × List ℕ)
-said line = result_map_both (λ w. w) (λ (fault : LineFault). (fault.at, reason machine.paths fault.why)) (parsed machine line)
+said line = result_map_both (λ w. w) (λ (fault : LineFault). (fault.at, reason machine fault.why)) (parsed machine line)
 
 -- ---- words
 
@@ -113,6 +114,9 @@ no_byte = refl
 
 head_behind_blanks : said (codes "  Leaf RET") ≡ Err (2, codes "head")
 head_behind_blanks = refl
+
+no_alias_label : said (codes "alias") ≡ Err (5, codes "label")
+no_alias_label = refl
 
 other_label : said (codes "leaf RET") ≡ Err (5, codes "label")
 other_label = refl

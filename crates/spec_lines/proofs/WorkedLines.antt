@@ -13,10 +13,10 @@ use Rattle.spec_lines.specs.BareLine.{bare_line}
 use Rattle.spec_lines.specs.Streams.{Full, Bare, stream_lines}
 use Rattle.spec_lines.specs.LeafFields.{whole_leaf}
 
-abbrev digit_list : List ℕ → List Digit
+abbrev pub digit_list : List ℕ → List Digit
 digit_list text = filter_map digit_of text
 
-abbrev field : List ℕ → ℕ → List ℕ → Item
+abbrev pub field : List ℕ → ℕ → List ℕ → Item
 field name start text = record { name = Some name; start = start; digits = digit_list text; marks = map (λ _. false) (digit_list text) }
 
 abbrev bits : ℕ → List ℕ → Item
@@ -34,17 +34,17 @@ group name items = record (bare Group name) { items = items }
 abbrev leaf : List ℕ → List Item → Own
 leaf name items = record (bare Leaf name) { items = items }
 
-abbrev add : List Own
+abbrev pub add : List Own
 add = set ∷ group (codes "dpimm") (bits 26 (codes "100") ∷ [])
     ∷ leaf (codes "ADD_64_addsub_imm") (field (codes "sf") 31 (codes "1") ∷ field (codes "op") 30 (codes "0") ∷ field (codes "S") 29 (codes "0") ∷ bits 23 (codes "100010") ∷ field (codes "sh") 22 (codes "x")
     ∷ field (codes "imm12") 10 (codes "xxxxxxxxxxxx") ∷ field (codes "Rn") 5 (codes "xxxxx") ∷ field (codes "Rd") 0 (codes "xxxxx") ∷ []) ∷ []
 
-abbrev movz : List Own
+abbrev pub movz : List Own
 movz = set ∷ group (codes "dpimm") (bits 26 (codes "100") ∷ [])
     ∷ leaf (codes "MOVZ_64_movewide") (field (codes "sf") 31 (codes "1") ∷ field (codes "opc") 29 (codes "10") ∷ bits 23 (codes "100101") ∷ field (codes "hw") 21 (codes "xx")
     ∷ field (codes "imm16") 5 (codes "xxxxxxxxxxxxxxxx") ∷ field (codes "Rd") 0 (codes "xxxxx") ∷ []) ∷ []
 
-abbrev ret : List Own
+abbrev pub ret : List Own
 ret = set ∷ group (codes "control") (bits 26 (codes "101") ∷ [])
     ∷ leaf (codes "RET_64R_branch_reg") (bits 10 (codes "1101011001011111000000") ∷ field (codes "Rn") 5 (codes "xxxxx") ∷ bits 0 (codes "00000") ∷ []) ∷ []
 
@@ -52,12 +52,12 @@ abbrev hint : List ℕ → List ℕ → List ℕ → List Own
 hint name crm op2 = set ∷ group (codes "control") (bits 26 (codes "101") ∷ [])
     ∷ leaf name (bits 12 (codes "11010101000000110010") ∷ field (codes "CRm") 8 crm ∷ field (codes "op2") 5 op2 ∷ bits 0 (codes "11111") ∷ []) ∷ []
 
-abbrev load : List Own
+abbrev pub load : List Own
 load = set ∷ group (codes "ldst") (bits 27 (codes "1") ∷ bits 25 (codes "0") ∷ [])
     ∷ leaf (codes "LDXR_LR64_ldstexclr") (bits 30 (codes "11") ∷ bits 24 (codes "001000") ∷ bits 23 (codes "0") ∷ field (codes "L") 22 (codes "1") ∷ bits 21 (codes "0") ∷ should_be_ones 16 (codes "11111")
     ∷ field (codes "o0") 15 (codes "0") ∷ should_be_ones 10 (codes "11111") ∷ field (codes "Rn") 5 (codes "xxxxx") ∷ field (codes "Rt") 0 (codes "xxxxx") ∷ []) ∷ []
 
-abbrev aese : List Own
+abbrev pub aese : List Own
 aese = set ∷ group (codes "simd") (bits 25 (codes "111") ∷ [])
     ∷ record (leaf (codes "AESE_B_cryptoaes") (bits 24 (codes "01001110") ∷ field (codes "size") 22 (codes "00") ∷ bits 17 (codes "10100") ∷ field (codes "opcode") 12 (codes "00100") ∷ bits 10 (codes "10")
     ∷ field (codes "Rn") 5 (codes "xxxxx") ∷ field (codes "Rd") 0 (codes "xxxxx") ∷ [])) { condition = Some (Call IsFeatureImplemented (exprs_of (Name (codes "FEAT_AES") ∷ []))) } ∷ []
@@ -66,6 +66,7 @@ abbrev machine : Machine
 machine = record {
   configuration = record { parameters = []; atoms = [] };
   paths = add ∷ movz ∷ hint (codes "HINT_HM_hints") (codes "xxxx") (codes "xxx") ∷ hint (codes "NOP_HI_hints") (codes "0000") (codes "000") ∷ ret ∷ load ∷ aese ∷ [];
+  aliases = [];
 }
 
 -- ---- full lines
@@ -126,7 +127,7 @@ bare_ragged = refl
 
 -- ---- a leaf
 
-leaf_of_load : whole_leaf machine.paths 5
+leaf_of_load : whole_leaf machine 5
     ≡ codes "leaf LDXR_LR64_ldstexclr\npath A64 ldst LDXR_LR64_ldstexclr\nbits 11001000010xxxxx0xxxxxxxxxxxxxxx\n" ++ (codes "field L 22 1 fixed\nfield o0 15 1 fixed\nfield Rn 5 5 shown\nfield Rt 0 5 shown\n" ++ codes "rest 0x001f7c00 0x001f7c00\n")
 unfolding digits number_of_bits
 leaf_of_load = refl

@@ -26,11 +26,11 @@ abbrev pub candidate : List (List Own) → Candidate → List ℕ
 candidate paths c = 32 ∷ (label paths c.leaf ++ verdict_text c.verdict)
 
 -- a word at no leaf, at one, or at several
-abbrev pub leaves_text : List (List Own) → ℕ → List Candidate → List ℕ
-leaves_text paths w [] = codes "none"
-leaves_text paths w (c ∷ []) = lone_text c.verdict ++ lone_leaf paths c.leaf w
-leaves_text paths w (c ∷ d ∷ cs) = codes "many" ++ flat_map (candidate paths) (c ∷ d ∷ cs)
+abbrev pub leaves_text : Machine → ℕ → List Candidate → List ℕ
+leaves_text machine w [] = codes "none"
+leaves_text machine w (c ∷ []) = lone_text c.verdict ++ lone_leaf machine c.leaf w
+leaves_text machine w (c ∷ d ∷ cs) = codes "many" ++ flat_map (candidate machine.paths) (c ∷ d ∷ cs)
 
 -- the offset in the stream as at least 8 digits, the word as 8 digits, and what it is; each line ends with LF
 abbrev pub full_line : Machine → ℕ → ℕ → List ℕ
-full_line machine offset w = hex 8 offset ++ (32 ∷ (hex 8 w ++ (32 ∷ (leaves_text machine.paths w (found machine.paths machine.configuration w) ++ 10 ∷ []))))
+full_line machine offset w = hex 8 offset ++ (32 ∷ (hex 8 w ++ (32 ∷ (leaves_text machine w (found machine.paths machine.configuration w) ++ 10 ∷ []))))

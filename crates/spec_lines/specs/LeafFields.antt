@@ -1,10 +1,13 @@
--- All that is shown of a leaf: its label, its path and its fixed bits, then its visible fields and its free unnamed bits.
+-- All that is shown of a leaf: its label, its path and its fixed bits, then its visible fields and its free unnamed bits, and
+-- then its aliases.
 use Rattle.std.specs.Prelude.{ℕ, List, [], ◌∷◌, ◌++◌, Bool, true, false, codes, decimal, flat_map, slice_index_or}
 use Rattle.spec_instructions.specs.Tree.{Own}
 use Rattle.spec_instructions.specs.Fields.{Field, fields}
 use Rattle.spec_encoding.specs.PathLayout.{is_shown, free_unnamed, default_bits}
 use Rattle.spec_lines.specs.Hex.{hex}
+use Rattle.spec_decode.specs.Machine.{Machine}
 use Rattle.spec_lines.specs.Leaf.{leaf_text}
+use Rattle.spec_lines.specs.LeafAliases.{alias_lines}
 
 -- a field is shown on lines, or all its bits are fixed
 abbrev pub shown_text : Bool → List ℕ
@@ -27,5 +30,5 @@ abbrev pub fields_text : List Own → List ℕ
 fields_text path = flat_map (field_line path) (fields path) ++ free_line path
 
 -- all lines of leaf k
-abbrev pub whole_leaf : List (List Own) → ℕ → List ℕ
-whole_leaf paths k = leaf_text paths k ++ fields_text (slice_index_or paths k [])
+abbrev pub whole_leaf : Machine → ℕ → List ℕ
+whole_leaf machine k = leaf_text machine.paths k ++ (fields_text (slice_index_or machine.paths k []) ++ alias_lines machine.aliases k)

@@ -2,11 +2,13 @@ pub mod Hex
 pub mod Leaf
 pub mod LogLine
 pub mod Pairs
+pub mod Way
 pub mod LoneLeaf
 pub mod FullLine
 pub mod BareLine
 pub mod Words
 pub mod Streams
+pub mod LeafAliases
 pub mod LeafFields
 pub mod Encoded
 pub mod Token
@@ -16,4 +18,5 @@ pub mod Parsed
 pub mod Reasons
 pub mod Assembly
 pub mod Cut
+pub mod SoundAliases
 pub mod ReadBack

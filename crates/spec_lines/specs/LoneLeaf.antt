@@ -1,9 +1,14 @@
--- A leaf with the fields and the rest that a word has at it.
-use Rattle.std.specs.Prelude.{ℕ, List, [], ◌++◌, slice_index_or}
-use Rattle.spec_instructions.specs.Tree.{Own}
+-- A leaf at which a word is found alone.
+use Rattle.std.specs.Prelude.{ℕ, List, ◌++◌, codes}
 use Rattle.spec_instructions.specs.Paths.{label}
-use Rattle.spec_lines.specs.Pairs.{pairs_text}
+use Rattle.spec_decode.specs.Machine.{Machine}
+use Rattle.spec_lines.specs.Way.{Way, ByLeaf, ByAlias, written, way_of}
 
--- the label of leaf k, and the fields and the rest
-abbrev pub lone_leaf : List (List Own) → ℕ → ℕ → List ℕ
-lone_leaf paths k w = label paths k ++ pairs_text (slice_index_or paths k []) w
+-- the leaf's label, fields and rest; where an alias is preferred, the label, and behind it the alias with its fields and rest
+abbrev pub lone_by : Machine → ℕ → ℕ → Way → List ℕ
+lone_by machine k w (ByLeaf l) = written machine (ByLeaf l) w
+lone_by machine k w (ByAlias a) = label machine.paths k ++ (codes " alias " ++ written machine (ByAlias a) w)
+
+-- leaf k
+abbrev pub lone_leaf : Machine → ℕ → ℕ → List ℕ
+lone_leaf machine k w = lone_by machine k w (way_of machine k w)

@@ -1,7 +1,9 @@
 -- The reason why a line is refused, as it is printed.
-use Rattle.std.specs.Prelude.{ℕ, List, [], ◌++◌, codes, decimal, slice_get, slice_index_or, option_map, unwrap_or}
+use Rattle.std.specs.Prelude.{ℕ, List, [], ◌++◌, codes, decimal, slice_get, option_map, unwrap_or}
 use Rattle.spec_instructions.specs.Tree.{Own}
 use Rattle.spec_encoding.specs.Refusal.{Refusal, UnknownField, DoubledField, MissingField, TooWide, Clash, FixedBit, RestBit, Excluded}
+use Rattle.spec_decode.specs.Machine.{Machine}
+use Rattle.spec_lines.specs.Way.{way_path}
 use Rattle.spec_lines.specs.LineFault.{LineWhy, Long, Head, Label, Pair, Many, Encode}
 
 -- the name of a node of a path, by its place from the root
@@ -18,10 +20,10 @@ refusal_text path (FixedBit bit) = codes "fixed " ++ decimal bit
 refusal_text path (RestBit bit) = codes "restbit " ++ decimal bit
 refusal_text path (Excluded node) = codes "excluded " ++ node_name path node
 
-abbrev pub reason : List (List Own) → LineWhy → List ℕ
-reason paths Long = codes "long"
-reason paths Head = codes "head"
-reason paths Label = codes "label"
-reason paths Pair = codes "pair"
-reason paths Many = codes "many"
-reason paths (Encode k why) = refusal_text (slice_index_or paths k []) why
+abbrev pub reason : Machine → LineWhy → List ℕ
+reason machine Long = codes "long"
+reason machine Head = codes "head"
+reason machine Label = codes "label"
+reason machine Pair = codes "pair"
+reason machine Many = codes "many"
+reason machine (Encode way why) = refusal_text (way_path machine way) why

@@ -3,4 +3,4 @@
 
 mod laws;
 
-pub use laws::{bare_lines_are_read, lone_fields_tell_word};
+pub use laws::{aliases_are_sound, bare_lines_are_read, lone_fields_tell_word};

@@ -1,5 +1,5 @@
 -- What the statuses say, put together: an answer is the outcome's, and a run without faults gives the outcome.
-use Rattle.std.proofs.Common.{◌≡◌, ◌⊎◌, ℕ, ◌≤◌, List, [], ◌++◌, length, take, drop, arith, Option, Some, None, IfSome, IsSomeAnd, Ok, Err, inl, inr, refl, sym, ap, ◌∙◌, subst, append_assoc, length-append, length-take}
+use Rattle.std.proofs.Common.{◌≡◌, ◌⊎◌, ℕ, ◌≤◌, List, [], ◌++◌, length, take, drop, arith, Option, Some, None, IfSome, IsSomeAnd, Result, Ok, Err, inl, inr, refl, sym, ap, ◌∙◌, subst, append_assoc, length-append, length-take}
 use Rattle.std.specs.Io.KnownBytes.{Consumes, Keeps}
 use Rattle.std.proofs.KnownBytes.{Appends-nil, Appends-kept}
 use Rattle.std.proofs.Math.Seq.{take-append_seam}
@@ -9,16 +9,17 @@ use Rattle.spec_io.specs.Documents.{Document as Named}
 use Rattle.spec_io.specs.States.{Reading, Writing}
 use Rattle.spec_command.specs.Commands.{Request}
 use Rattle.spec_command.specs.Request.{request}
-use Rattle.spec_run.specs.End.{End, Done, Ragged, Usage, Document, Question, ReadFault, WriteFault, Limit, NoMemory, Which, Insns, Log, Input, IsEarly}
-use Rattle.spec_run.specs.Opening.{OpeningError, NotRead, TooLong, Refused, end_by}
+use Rattle.spec_run.specs.End.{End, Done, Ragged, Usage, Document, Refuted, Question, NoFeature, NoLeaf, Line, ReadFault, WriteFault, Limit, NoMemory, Which, Insns, Features, Log, Input, IsEarly}
+use Rattle.spec_run.specs.Opening.{OpeningError, NotRead, TooLong, Refused, UnknownPin, NoneFits}
+use Rattle.spec_run.specs.Refutation.{EndsBy}
 use Rattle.spec_run.specs.Work.{Outcome, Work, Once, Reads, Over, outcome_of}
 use Rattle.spec_run.specs.Commands.{opened, work_of}
-use Rattle.spec_run.specs.Outcome.{after_opening, of_request, outcome}
+use Rattle.spec_run.specs.Outcome.{after_opening, of_request, outcome, EndsAs, out_of, EndsEarly}
 use Rattle.spec_run.specs.Scene.{Scene, Took, TookPrefix, TookShort}
 use Rattle.spec_run.specs.Ran.{Told, Whole, Broke, SourceBroke, Ran}
 use Rattle.spec_run.specs.Fits.{IsFit, IsProgress}
 use Rattle.spec_run.specs.Opens.{DocumentsGive, IsUnopened}
-use Rattle.spec_run.specs.Answers.{Untouched, WorkDecides, OutOfMemory, Means, Misused, Asked, Says}
+use Rattle.spec_run.specs.Answers.{Untouched, NothingFits, WorkDecides, OutOfMemory, Means, Misused, Asked, Says}
 use Rattle.spec_run.specs.Exact.{GivesOutcome, IsAnswer, IsLate, IsCut, AnswersAreExact, RunsComplete, FaultsComeLate, PrefixesGoOut}
 use Rattle.spec_run.proofs.Fits.{works_fit}
 
@@ -80,12 +81,15 @@ never_early input input_after out out_after over Done fits h early = early
 never_early input input_after out out_after over (Ragged rest) fits h early = early
 never_early input input_after out out_after over (Usage place) fits h early = h.meaning
 never_early input input_after out out_after over (Document which fault) fits h early = h.meaning
+never_early input input_after out out_after over (Refuted steps log) fits h early = h.meaning
 never_early input input_after out out_after over (Question fault) fits h early = fits.late h.meaning.0 (subst IsEarly (sym h.meaning.2.0) early)
 never_early input input_after out out_after over (ReadFault Insns) fits h early = h.meaning
+never_early input input_after out out_after over (ReadFault Features) fits h early = h.meaning
 never_early input input_after out out_after over (ReadFault Log) fits h early = h.meaning
 never_early input input_after out out_after over (ReadFault Input) fits h early = early
 never_early input input_after out out_after over WriteFault fits h early = early
 never_early input input_after out out_after over (Limit Insns) fits h early = h.meaning
+never_early input input_after out out_after over (Limit Features) fits h early = h.meaning
 never_early input input_after out out_after over (Limit Log) fits h early = h.meaning
 never_early input input_after out out_after over (Limit Input) fits h early = early
 never_early input input_after out out_after over NoMemory fits h early = early
@@ -103,6 +107,7 @@ said words s (Usage place) h = inl (place, refl, h)
 said words s Done h = inr h
 said words s (Ragged rest) h = inr h
 said words s (Document which fault) h = inr h
+said words s (Refuted steps log) h = inr h
 said words s (Question fault) h = inr h
 said words s (ReadFault which) h = inr h
 said words s WriteFault h = inr h
@@ -111,56 +116,67 @@ said words s NoMemory h = inr h
 
 module _ (words : List (List ℕ)) (s : Scene) (docs : List Named) (bytes : List ℕ) where
   -- nothing went out
-  nothing : (end : End) → outcome words docs bytes ≡ record { end = end; out = [] } → Keeps s.out.taken s.out_after.taken → GivesOutcome words s docs bytes end
-  nothing end e kept = subst (λ o. (o.end ≡ end) × Took s.out s.out_after o.out) (sym e) (refl, Appends-kept s.out.taken s.out.taken s.out_after.taken [] (Appends-nil s.out.taken) kept)
+  nothing : (end : End) (result : Result Outcome OpeningError) → outcome words docs bytes ≡ result → EndsAs result end → out_of result ≡ [] → Keeps s.out.taken s.out_after.taken → GivesOutcome words s docs bytes end
+  nothing end result e ends none kept =
+      let took : Took s.out s.out_after [] = Appends-kept s.out.taken s.out.taken s.out_after.taken [] (Appends-nil s.out.taken) kept in
+      subst (λ r. EndsAs r end × Took s.out s.out_after (out_of r)) (sym e) (ends, subst (Took s.out s.out_after) (sym none) took)
 
   misused : (end : End) (place : ℕ) → end ≡ Usage place → Misused words s place → GivesOutcome words s docs bytes end
-  misused end place is h = subst (GivesOutcome words s docs bytes) (sym is) (nothing (Usage place) (ap (λ r. of_request r docs bytes) h.cause) h.untouched.out)
+  misused end place is h = subst (GivesOutcome words s docs bytes) (sym is) (nothing (Usage place) (Ok (record { end = Usage place; out = [] })) (ap (λ r. of_request r docs bytes) h.cause) refl refl h.untouched.out)
 
   -- ---- the words ask for something
 
   module _ (d : s.shelf.documents ≡ Some docs) (l : s.input.left ≡ Some bytes) (asked : Request) (says : request words ≡ Ok asked) where
     -- the outcome where it is not opened
-    refused : (error : OpeningError) → opened asked docs ≡ Err error → outcome words docs bytes ≡ record { end = end_by error; out = [] }
+    refused : (error : OpeningError) → opened asked docs ≡ Err error → outcome words docs bytes ≡ Err error
     refused error cause = ap (λ r. of_request r docs bytes) says ∙ ap (λ r. after_opening asked r bytes) cause
 
-    by_opening : (error : OpeningError) → DocumentsGive (opened asked) s.shelf s.shelf_after (Err error) → Untouched s → GivesOutcome words s docs bytes (end_by error)
-    by_opening error opens still = nothing (end_by error) (refused error (told s.shelf.documents docs _ d opens)) still.out
+    by_opening : (error : OpeningError) (end : End) → EndsBy error end → DocumentsGive (opened asked) s.shelf s.shelf_after (Err error) → Untouched s → GivesOutcome words s docs bytes end
+    by_opening error end ends opens still = nothing end (Err error) (refused error (told s.shelf.documents docs _ d opens)) ends refl still.out
+
+    -- no configuration fits
+    unfitting : (steps : ℕ) (log : List ℕ) → NothingFits s asked steps log → GivesOutcome words s docs bytes (Refuted steps log)
+    unfitting steps log h = by_opening (NoneFits h.variables h.clauses) (Refuted steps log) (steps, log, refl, h.refutation) h.decides.cause.0 h.decides.untouched
 
     -- a document that is not there, where the shelf's count did not rise
-    unfetched : (which : Which) → IsUnopened (opened asked) s.shelf s.shelf_after (NotRead which) → ¬ Rose s.shelf.faults s.shelf_after.faults → (outcome words docs bytes).end ≡ ReadFault which
-    unfetched which cause still = elim cause.1 [
+    unfetched : (which : Which) → IsUnopened (opened asked) s.shelf s.shelf_after (NotRead which) → ¬ Rose s.shelf.faults s.shelf_after.faults → EndsAs (outcome words docs bytes) (ReadFault which)
+    unfetched which cause still = elim cause [
       | inl rose ↦ absurd (still rose)
-      | inr none ↦ ap (λ o. o.end) (refused (NotRead which) (told_and s.shelf.documents docs (λ docs. opened asked docs ≡ Err (NotRead which)) d none))
+      | inr none ↦ (let e = refused (NotRead which) (told_and s.shelf.documents docs (λ docs. opened asked docs ≡ Err (NotRead which)) d none) in subst (λ r. EndsAs r (ReadFault which)) (sym e) refl)
     ]
 
     -- the outcome where it is opened
-    accepted : (end : End) (h : WorkDecides s asked end) → outcome words docs bytes ≡ outcome_of (work_of asked h.found) bytes
+    accepted : (end : End) (h : WorkDecides s asked end) → outcome words docs bytes ≡ Ok (outcome_of (work_of asked h.found) bytes)
     accepted end h = ap (λ r. of_request r docs bytes) says ∙ ap (λ r. after_opening asked r bytes) (told s.shelf.documents docs _ d h.gives)
 
     -- what holds of the work's outcome, where it was told, holds of the run's
-    by_work : (end : End) (P : Outcome → Type 0) (h : WorkDecides s asked end) → Told s.input s.input_after s.out s.out_after (work_of asked h.found) P → P (outcome words docs bytes)
-    by_work end P h holds = subst P (sym (accepted end h)) (outcome_told s.input s.input_after s.out s.out_after bytes l (work_of asked h.found) P holds)
+    by_work : (end : End) (P : Result Outcome OpeningError → Type 0) (h : WorkDecides s asked end) → Told s.input s.input_after s.out s.out_after (work_of asked h.found) (λ o. P (Ok o)) → P (outcome words docs bytes)
+    by_work end P h holds = subst P (sym (accepted end h)) (outcome_told s.input s.input_after s.out s.out_after bytes l (work_of asked h.found) (λ o. P (Ok o)) holds)
 
     whole : (end : End) (h : WorkDecides s asked end) → Whole s.input s.input_after s.out s.out_after (work_of asked h.found) end → GivesOutcome words s docs bytes end
-    whole end h went = by_work end (λ o. (o.end ≡ end) × Took s.out s.out_after o.out) h went
+    whole end h went = by_work end (λ r. EndsAs r end × Took s.out s.out_after (out_of r)) h went
 
     exact : (end : End) → Means s asked end → IsAnswer end → GivesOutcome words s docs bytes end
     exact Done h a = whole Done h h.ran.meaning.0
     exact (Ragged rest) h a = whole (Ragged rest) h h.ran.meaning.0
     exact (Usage place) h a = absurd h
-    exact (Document which fault) h a = by_opening (Refused which fault) h.cause.1 h.untouched
-    exact (Question fault) h a = whole (Question fault) h h.ran.meaning
+    exact (Document which fault) h a = by_opening (Refused which fault) (Document which fault) refl h.cause.0 h.untouched
+    exact (Refuted steps log) h a = unfitting steps log h
+    exact (Question (NoFeature pin)) h a = by_opening (UnknownPin pin) (Question (NoFeature pin)) refl h.cause.0 h.untouched
+    exact (Question NoLeaf) h a = whole (Question NoLeaf) h h.ran.meaning
+    exact (Question (Line number at reason)) h a = whole (Question (Line number at reason)) h h.ran.meaning
     exact (ReadFault which) h a = absurd a
     exact WriteFault h a = absurd a
-    exact (Limit Insns) h a = by_opening (TooLong Insns) h.cause.1 h.untouched
-    exact (Limit Log) h a = by_opening (TooLong Log) h.cause.1 h.untouched
+    exact (Limit Insns) h a = by_opening (TooLong Insns) (Limit Insns) refl h.cause.0 h.untouched
+    exact (Limit Features) h a = by_opening (TooLong Features) (Limit Features) refl h.cause.0 h.untouched
+    exact (Limit Log) h a = by_opening (TooLong Log) (Limit Log) refl h.cause.0 h.untouched
     exact (Limit Input) h a = whole (Limit Input) h h.ran.meaning
     exact NoMemory h a = absurd a
 
-    complete : (end : End) → Means s asked end → ¬ Rose s.shelf.faults s.shelf_after.faults → ¬ Rose s.input.faults s.input_after.faults → ¬ Rose s.out.faults s.out_after.faults → ((outcome words docs bytes).end ≡ end) ⊎ (end ≡ NoMemory)
+    complete : (end : End) → Means s asked end → ¬ Rose s.shelf.faults s.shelf_after.faults → ¬ Rose s.input.faults s.input_after.faults → ¬ Rose s.out.faults s.out_after.faults → EndsAs (outcome words docs bytes) end ⊎ (end ≡ NoMemory)
     complete NoMemory h shelf input out = inr refl
     complete (ReadFault Insns) h shelf input out = inl (unfetched Insns h.cause shelf)
+    complete (ReadFault Features) h shelf input out = inl (unfetched Features h.cause shelf)
     complete (ReadFault Log) h shelf input out = inl (unfetched Log h.cause shelf)
     complete (ReadFault Input) h shelf input out = absurd (input (source_rose s.input s.input_after s.out s.out_after (work_of asked h.found) h.ran.meaning))
     complete WriteFault h shelf input out = absurd (out h.ran.meaning.0)
@@ -168,30 +184,33 @@ module _ (words : List (List ℕ)) (s : Scene) (docs : List Named) (bytes : List
     complete (Ragged rest) h shelf input out = inl (exact (Ragged rest) h tt).0
     complete (Usage place) h shelf input out = absurd h
     complete (Document which fault) h shelf input out = inl (exact (Document which fault) h tt).0
+    complete (Refuted steps log) h shelf input out = inl (exact (Refuted steps log) h tt).0
     complete (Question fault) h shelf input out = inl (exact (Question fault) h tt).0
     complete (Limit which) h shelf input out = inl (exact (Limit which) h tt).0
 
-    late : (end : End) → Means s asked end → IsLate end → IsEarly (outcome words docs bytes).end → ⊥
+    late : (end : End) → Means s asked end → IsLate end → EndsEarly (outcome words docs bytes) → ⊥
     late (ReadFault Input) h is early =
-        late_read s.input s.input_after s.out s.out_after bytes l (work_of asked h.found) (works_fit asked h.found) h.ran.meaning (subst (λ o. IsEarly o.end) (accepted (ReadFault Input) h) early)
+        late_read s.input s.input_after s.out s.out_after bytes l (work_of asked h.found) (works_fit asked h.found) h.ran.meaning (subst EndsEarly (accepted (ReadFault Input) h) early)
     late WriteFault h is early =
         let work : Work = work_of asked h.found in
         let short = outcome_told s.input s.input_after s.out s.out_after bytes l work (λ o. TookShort s.out s.out_after o.out) h.ran.meaning.1 in
-        late_write s.input s.input_after s.out s.out_after bytes l work (works_fit asked h.found) short (subst (λ o. IsEarly o.end) (accepted WriteFault h) early)
+        late_write s.input s.input_after s.out s.out_after bytes l work (works_fit asked h.found) short (subst EndsEarly (accepted WriteFault h) early)
     late (ReadFault Insns) h is early = is
+    late (ReadFault Features) h is early = is
     late (ReadFault Log) h is early = is
     late Done h is early = is
     late (Ragged rest) h is early = is
     late (Usage place) h is early = is
     late (Document which fault) h is early = is
+    late (Refuted steps log) h is early = is
     late (Question fault) h is early = is
     late (Limit which) h is early = is
     late NoMemory h is early = is
 
     -- ---- a prefix went out
 
-    abbrev Prefix : Outcome → Type 0
-    Prefix o = TookPrefix s.out s.out_after o.out
+    abbrev Prefix : Result Outcome OpeningError → Type 0
+    Prefix r = TookPrefix s.out s.out_after (out_of r)
 
     cut_short : OutOfMemory s asked → Prefix (outcome words docs bytes)
     cut_short h = elim h.reached [
@@ -202,14 +221,16 @@ module _ (words : List (List ℕ)) (s : Scene) (docs : List Named) (bytes : List
     cut : (end : End) → Means s asked end → IsCut end → Prefix (outcome words docs bytes)
     cut (ReadFault Input) h is =
         subst Prefix (sym (accepted (ReadFault Input) h)) (source_cut s.input s.input_after s.out s.out_after bytes l (work_of asked h.found) (works_fit asked h.found) h.ran.meaning)
-    cut WriteFault h is = short_is_prefix s.input s.input_after s.out s.out_after bytes l _ (by_work WriteFault (λ o. TookShort s.out s.out_after o.out) h h.ran.meaning.1)
+    cut WriteFault h is = short_is_prefix s.input s.input_after s.out s.out_after bytes l _ (by_work WriteFault (λ r. TookShort s.out s.out_after (out_of r)) h h.ran.meaning.1)
     cut NoMemory h is = cut_short h
     cut (ReadFault Insns) h is = absurd is
+    cut (ReadFault Features) h is = absurd is
     cut (ReadFault Log) h is = absurd is
     cut Done h is = absurd is
     cut (Ragged rest) h is = absurd is
     cut (Usage place) h is = absurd is
     cut (Document which fault) h is = absurd is
+    cut (Refuted steps log) h is = absurd is
     cut (Question fault) h is = absurd is
     cut (Limit which) h is = absurd is
 

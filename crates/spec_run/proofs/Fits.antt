@@ -3,14 +3,13 @@ use Rattle.std.proofs.Common.{◌≡◌, ℕ, ◌-◌, ◌<◌, ◌≤◌, ◌+�
 use Rattle.std.proofs.Math.Seq.{take-append-add}
 use Rattle.std.proofs.lemmas.Bool.{cases_lt}
 use Rattle.std.proofs.lemmas.Bool.Decides.{nat_tests}
-use Rattle.spec_instructions.specs.Tree.{Own}
 use Rattle.spec_instructions.specs.Paths.{labelled_leaf}
 use Rattle.spec_decode.specs.Machine.{Machine}
 use Rattle.spec_lines.specs.Words.{words_in, rest_in}
 use Rattle.spec_lines.specs.Streams.{Form, form_by, word_lines, bytes_line, stream_lines}
 use Rattle.spec_lines.proofs.Streams.{words_in-front}
 use Rattle.spec_lines.proofs.StreamLines.{word_lines-append}
-use Rattle.spec_command.specs.Commands.{AskList, AskAsm, AskLeaf, AskProof}
+use Rattle.spec_command.specs.Commands.{AskList, AskAsm, AskLeaf, AskConfig, AskProof, AskCheck}
 use Rattle.spec_run.specs.End.{IsEarly, Limit, Input}
 use Rattle.spec_run.specs.Work.{Outcome}
 use Rattle.spec_run.specs.Listing.{stream_end, list_outcome, list_work}
@@ -58,14 +57,16 @@ list_fits form machine limit = record { front = list_front form machine limit; l
 
 -- ---- `leaf`
 
-leaf_fits : (paths : List (List Own)) (found : Option ℕ) → IsEarly (leaf_outcome paths found).end → (leaf_outcome paths found).out ≡ []
-leaf_fits paths None early = refl
-leaf_fits paths (Some k) early = absurd early
+leaf_fits : (machine : Machine) (found : Option ℕ) → IsEarly (leaf_outcome machine found).end → (leaf_outcome machine found).out ≡ []
+leaf_fits machine None early = refl
+leaf_fits machine (Some k) early = absurd early
 
 -- ---- all commands
 
 pub works_fit : WorksFit
-works_fit (AskList release bare limit on) machine = list_fits (form_by bare) machine limit
-works_fit (AskAsm release limit on) machine = asm_fits machine limit
-works_fit (AskLeaf release label) machine = leaf_fits machine.paths (labelled_leaf machine.paths label)
+works_fit (AskList release bare limit asked) machine = list_fits (form_by bare) machine limit
+works_fit (AskAsm release limit asked) machine = asm_fits machine limit
+works_fit (AskLeaf release label) machine = leaf_fits machine (labelled_leaf machine.paths label)
+works_fit (AskConfig features pins) g = λ early. absurd early
 works_fit (AskProof log) checked = λ early. absurd early
+works_fit (AskCheck asked) counted = λ early. absurd early

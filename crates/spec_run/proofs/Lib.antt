@@ -3,5 +3,9 @@ pub mod Fits
 pub mod Exact
 pub mod Told
 pub mod Worked
+pub mod WorkedFeatures
 pub mod Logs
 pub mod RoundTrip
+pub mod UnknownPins
+pub mod First
+pub mod Settled

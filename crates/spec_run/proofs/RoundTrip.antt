@@ -1,15 +1,16 @@
 -- `asm` over the bare lines of `list` gives the stream again.
 use Rattle.std.proofs.Common.{◌≡◌, ◌∙◌, ap, sym, subst, refl, ℕ, ◌%◌, ◌≤◌, take, Bool, true, false, cond, nat_lt, List, [], ◌∷◌, length, Option, Some, None, Result, Ok, Err, arith}
 use Rattle.serde_json.specs.Data.{Data}
-use Rattle.spec_names.specs.Distinct.{distinct}
 use Rattle.spec_io.specs.Documents.{Document as Named, document_of}
 use Rattle.spec_walk.specs.Event.{Fault}
-use Rattle.spec_instructions.specs.Tree.{Own}
-use Rattle.spec_instructions.specs.Reading.{paths_read}
-use Rattle.spec_instructions.specs.SoundPaths.{AreSoundPaths}
+use Rattle.spec_walk.specs.Limits.{Counts, ◌>>=◌}
+use Rattle.spec_expressions.specs.Scope.{Configuration}
+use Rattle.spec_instructions.specs.Tree.{Node}
+use Rattle.spec_instructions.specs.Paths.{paths_from}
+use Rattle.spec_instructions.specs.Reading.{tree_read, paths_read}
 use Rattle.spec_instructions.proofs.SoundPathLaws.{paths_are_sound}
 use Rattle.spec_decode.specs.Machine.{Machine}
-use Rattle.spec_command.specs.Commands.{Release, AskList, AskAsm}
+use Rattle.spec_command.specs.Commands.{Release, Configured, AskList, AskAsm}
 use Rattle.spec_lines.specs.Words.{words_in, rest_in}
 use Rattle.spec_lines.specs.Streams.{Bare, word_lines, stream_lines}
 use Rattle.spec_lines.specs.ReadBack.{IsReadable}
@@ -17,9 +18,10 @@ use Rattle.spec_lines.proofs.Streams.{length-rest_in}
 use Rattle.spec_lines.proofs.StreamsBack.{bare_streams_are_read}
 use Rattle.spec_lines.proofs.EncodedLaws.{lone_fields_tell_word}
 use Rattle.spec_lines.proofs.ReadableLaws.{sound_machines_are_readable}
-use Rattle.spec_run.specs.End.{Done, Ragged, Document, ReadFault, Limit, Insns, Input}
+use Rattle.spec_lines.proofs.SoundAliasLaws.{aliases_are_sound}
+use Rattle.spec_run.specs.End.{Which, Done, Ragged, Limit, Insns, Input}
 use Rattle.spec_run.specs.Work.{Outcome}
-use Rattle.spec_run.specs.Opening.{OpeningError, NotRead, TooLong, Refused, end_by, walked, of_value, document_limit, json_in, of_document, machine_opened}
+use Rattle.spec_run.specs.Opening.{OpeningError, TooLong, ◌then◌, json_in, by_walk, by_value, document_limit, by_bytes, set_opened, pinned, features_given, configured, machine_by, machine_opened}
 use Rattle.spec_run.specs.Listing.{stream_end, list_outcome}
 use Rattle.spec_run.specs.Assembling.{assembly_outcome, asm_outcome}
 use Rattle.spec_run.specs.Outcome.{after_opening, of_request}
@@ -29,7 +31,7 @@ use Rattle.spec_run.proofs.Assembling.{asm_whole}
 
 pub bare_lines_are_assembled : BareLinesAreAssembled
 bare_lines_are_assembled machine bytes limit h small whole le =
-    asm_whole machine limit (stream_lines Bare machine bytes) le ∙ ap (assembly_outcome machine.paths Done) (bare_streams_are_read machine bytes small whole h)
+    asm_whole machine limit (stream_lines Bare machine bytes) le ∙ ap (assembly_outcome machine Done) (bare_streams_are_read machine bytes small whole h)
 
 -- ---- runs
 
@@ -55,48 +57,58 @@ assembled_back machine limit asm_limit bytes lines h small e le =
     ap (asm_outcome machine asm_limit) (sym is.lines_are)
     ∙ bare_lines_are_assembled machine bytes asm_limit h small is.whole (subst (λ (text : List ℕ). length text ≤ asm_limit) (sym is.lines_are) le)
 
-never_opened : (error : OpeningError) (lines : List ℕ) → (let o : Outcome = record { end = end_by error; out = [] } in o) ≡ record { end = Done; out = lines } → ⊥
-never_opened (NotRead which) lines e = let never : ReadFault which ≡ Done = ap (λ o. o.end) e in absurd cc
-never_opened (TooLong which) lines e = let never : Limit which ≡ Done = ap (λ o. o.end) e in absurd cc
-never_opened (Refused which fault) lines e = let never : Document which fault ≡ Done = ap (λ o. o.end) e in absurd cc
+-- ---- a machine that was opened is one of a document without faults
 
--- ---- a machine that was opened has the paths of an accepted document
+-- what was opened next came of what was opened
+then_gives : {A B : Type 0} (r : Result A OpeningError) (f : A → Result B OpeningError) (y : B) → (r then f) ≡ Ok y → (x : A) × (r ≡ Ok x) × (f x ≡ Ok y)
+then_gives (Ok x) f y e = (x, refl, e)
+then_gives (Err error) f y e = absurd cc
 
-abbrev paths_in : Result Machine OpeningError → List (List Own)
-paths_in (Ok machine) = machine.paths
-paths_in (Err error) = []
+-- what was read of a document came of a walk over some value
+module _ {A : Type 0} (which : Which) (walk : Data → Result A Fault) (x : A) where
+  walk_gives : (r : Result A Fault) → by_walk which r ≡ Ok x → r ≡ Ok x
+  walk_gives (Ok y) e = cc
+  walk_gives (Err fault) e = absurd cc
 
-walked_is_readable : (isa : List ℕ) (on : List (List ℕ)) (d : Data) (machine : Machine) (r : Result (List (List Own)) Fault) → paths_read isa (distinct on) d ≡ r → walked on r ≡ Ok machine → IsReadable machine
-walked_is_readable isa on d machine (Err fault) is e = absurd cc
-walked_is_readable isa on d machine (Ok paths) is e =
-    let same : paths ≡ machine.paths = ap paths_in e in
-    sound_machines_are_readable machine (subst AreSoundPaths same (paths_are_sound isa (distinct on) d paths is))
+  value_gives : (value : Option Data) → by_value which walk value ≡ Ok x → (d : Data) × (walk d ≡ Ok x)
+  value_gives None e = absurd cc
+  value_gives (Some d) e = (d, walk_gives (walk d) e)
 
-value_is_readable : (isa : List ℕ) (on : List (List ℕ)) (machine : Machine) (value : Option Data) → of_value isa on value ≡ Ok machine → IsReadable machine
-value_is_readable isa on machine None e = absurd cc
-value_is_readable isa on machine (Some d) e = walked_is_readable isa on d machine (paths_read isa (distinct on) d) refl e
+  document_gives : (document : Option (List ℕ)) → by_bytes which (λ bytes. by_value which walk (json_in bytes)) document ≡ Ok x → (d : Data) × (walk d ≡ Ok x)
+  document_gives None e = absurd cc
+  document_gives (Some bytes) e = go (nat_lt document_limit (length bytes)) e
+    where
+      go : (v : Bool) → cond v (Err (TooLong which)) (by_value which walk (json_in bytes)) ≡ Ok x → (d : Data) × (walk d ≡ Ok x)
+      go true e = absurd cc
+      go false e = value_gives (json_in bytes) e
 
-document_is_readable : (isa : List ℕ) (on : List (List ℕ)) (machine : Machine) (document : Option (List ℕ)) → of_document isa on document ≡ Ok machine → IsReadable machine
-document_is_readable isa on machine None e = absurd cc
-document_is_readable isa on machine (Some bytes) e = go (nat_lt document_limit (length bytes)) e
-  where
-    go : (v : Bool) → cond v (Err (TooLong Insns)) (of_value isa on (json_in bytes)) ≡ Ok machine → IsReadable machine
-    go true e = absurd cc
-    go false e = value_is_readable isa on machine (json_in bytes) e
+-- a set of an accepted document, under any configuration
+set_is_readable : (isa : List ℕ) (held : List (List ℕ)) (d : Data) (read : Node × Counts) (g : Configuration) → tree_read isa held d ≡ Ok read → IsReadable (machine_by read.0 g)
+set_is_readable isa held d read g e =
+    let paths : paths_read isa held d ≡ Ok (paths_from [] read.0) = ap (λ (r : Result (Node × Counts) Fault). r >>= λ read. Ok (paths_from [] read.0)) e in
+    sound_machines_are_readable (machine_by read.0 g) (paths_are_sound isa held d (paths_from [] read.0) paths) (aliases_are_sound isa held d read.0 read.1 e)
 
-opened_is_readable : (release : Release) (on : List (List ℕ)) (docs : List Named) (machine : Machine) → machine_opened release on docs ≡ Ok machine → IsReadable machine
-opened_is_readable release on docs machine e = document_is_readable release.isa on machine (document_of release.insns docs) e
+ok_same : {A : Type 0} (x y : A) → (let r : Result A OpeningError = Ok x in r) ≡ Ok y → x ≡ y
+ok_same x y e = cc
+
+opened_is_readable : (release : Release) (asked : Configured) (docs : List Named) (machine : Machine) → machine_opened release asked docs ≡ Ok machine → IsReadable machine
+opened_is_readable release asked docs machine e =
+    let set = then_gives (set_opened release (pinned asked.pins) docs) _ machine e in
+    let given = then_gives (features_given asked.features asked.pins set.0.1.held docs) _ machine set.2 in
+    let used = then_gives (configured given.0 asked.pins) _ machine given.2 in
+    let found = document_gives Insns (tree_read release.isa (pinned asked.pins)) set.0 (document_of release.insns docs) set.1 in
+    subst IsReadable (ok_same (machine_by set.0.0 used.0) machine used.2) (set_is_readable release.isa (pinned asked.pins) found.0 set.0 used.0 found.1)
 
 -- so its lines tell words by their fields
 pub opened_fields_tell_word : OpenedFieldsTellWord
-opened_fields_tell_word release on docs machine w c e word lone = lone_fields_tell_word machine w c word (opened_is_readable release on docs machine e).within lone
+opened_fields_tell_word release asked docs machine w c e word lone = lone_fields_tell_word machine w c word (opened_is_readable release asked docs machine e).formed lone
 
 pub lists_are_assembled : ListsAreAssembled
 lists_are_assembled list_words asm_words docs bytes lines h small e le =
     ap (λ r. of_request r docs lines) h.assembles
-    ∙ opened (machine_opened h.release h.on docs) (opened_is_readable h.release h.on docs) (ap (λ r. of_request r docs bytes) (sym h.lists) ∙ e)
+    ∙ opened (machine_opened h.release h.asked docs) (opened_is_readable h.release h.asked docs) (ap (λ r. of_request r docs bytes) (sym h.lists) ∙ e)
   where
-    opened : (r : Result Machine OpeningError) → ((machine : Machine) → r ≡ Ok machine → IsReadable machine) → after_opening (AskList h.release true h.list_limit h.on) r bytes ≡ record { end = Done; out = lines }
-        → after_opening (AskAsm h.release h.asm_limit h.on) r lines ≡ record { end = Done; out = bytes }
-    opened (Err error) readable e = absurd (never_opened error lines e)
-    opened (Ok machine) readable e = assembled_back machine h.list_limit h.asm_limit bytes lines (readable machine refl) small e le
+    opened : (r : Result Machine OpeningError) → ((machine : Machine) → r ≡ Ok machine → IsReadable machine) → after_opening (AskList h.release true h.list_limit h.asked) r bytes ≡ Ok (record { end = Done; out = lines })
+        → after_opening (AskAsm h.release h.asm_limit h.asked) r lines ≡ Ok (record { end = Done; out = bytes })
+    opened (Err error) readable e = absurd cc
+    opened (Ok machine) readable e = ap Ok (assembled_back machine h.list_limit h.asm_limit bytes lines (readable machine refl) small (ok_same _ _ e) le)

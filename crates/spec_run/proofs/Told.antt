@@ -1,8 +1,8 @@
 -- What is known of a work over a stream from what was read of it and what went out: for whoever does such a work piece by piece.
 use Rattle.std.proofs.Common.{◌≡◌, ℕ, ◌+◌, ◌≤◌, List, [], ◌++◌, length, take, Option, Some, None, IfSome, refl, sym, ap, ◌∙◌, subst, arith, length-append}
 use Rattle.std.proofs.lemmas.List.{take-append-le}
-use Rattle.std.specs.Io.KnownBytes.{Appends, Consumes, Keeps, IsAtEnd}
-use Rattle.std.proofs.KnownBytes.{Appends-nil, Appends-kept, Consumes-nil, Consumes-whole}
+use Rattle.std.specs.Io.KnownBytes.{Appends, Consumes, IsAtEnd}
+use Rattle.std.proofs.KnownBytes.{Appends-nil, Consumes-nil, Consumes-whole}
 use Rattle.spec_io.specs.States.{Reading, Writing}
 use Rattle.spec_run.specs.End as run
 use Rattle.spec_run.specs.Work.{Outcome, Over, Reads}

@@ -5,27 +5,40 @@ use Rattle.serde_json.specs.Read.{read}
 use Rattle.serde_json.proofs.OnLiterals.{serde_json_on_literals}
 use Rattle.spec_encoding.specs.Parts.{number_of_bits}
 use Rattle.spec_walk.specs.Event.{Missing, UnlistedKind}
+use Rattle.spec_walk.specs.Limits.{Counts}
+use Rattle.spec_instructions.specs.Tree.{Node}
+use Rattle.spec_instructions.specs.Reading.{tree_read}
 use Rattle.spec_decode.specs.Machine.{Machine}
 use Rattle.spec_command.specs.Request.{request}
-use Rattle.spec_command.specs.Commands.{Request, AskList, AskLeaf}
+use Rattle.spec_command.specs.Commands.{Configured, Request, AskList, AskLeaf}
 use Rattle.spec_run.specs.RoundTrip.{AreInverse}
 use Rattle.spec_run.specs.End.{Done, Ragged, Usage, Document, Question, NoLeaf, Line, ReadFault, WriteFault, Limit, Insns, Log, Input, Json, Schema, Syntax, message}
-use Rattle.spec_run.specs.Opening.{OpeningError, Refused, of_value}
+use Rattle.spec_run.specs.Opening.{OpeningError, NotRead, Refused, ◌then◌, by_value, pinned, features_given, configured, machine_by, unconfigured}
 use Rattle.spec_run.specs.Work.{Outcome}
 use Rattle.spec_run.specs.Outcome.{outcome, after_opening}
 
-empty_object : of_value (codes "A64") [] (read (codes "{}")) ≡ Err (Refused Insns (Schema (record { at = []; why = Missing (codes "instructions") })))
+-- the set of a document
+abbrev set_in : List ℕ → List (List ℕ) → List ℕ → Result (Node × Counts) OpeningError
+set_in isa held document = by_value Insns (tree_read isa held) (read document)
+
+-- the machine of that set, where no Features document is named
+abbrev machine_in : List ℕ → Configured → List ℕ → Result Machine OpeningError
+machine_in isa asked document =
+    set_in isa (pinned asked.pins) document then λ read.
+    (features_given asked.features asked.pins read.1.held [] then λ features. (configured features asked.pins then λ g. Ok (machine_by read.0 g)))
+
+empty_object : set_in (codes "A64") [] (codes "{}") ≡ Err (Refused Insns (Schema (record { at = []; why = Missing (codes "instructions") })))
 unfolding digits serde_json_on_literals
 empty_object = refl
 
-not_json : of_value (codes "A64") [] (read (codes "{")) ≡ Err (Refused Insns Json)
+not_json : set_in (codes "A64") [] (codes "{") ≡ Err (Refused Insns Json)
 unfolding digits serde_json_on_literals
 not_json = refl
 
-not_there : outcome (codes "list" ∷ codes "insns=d" ∷ []) ((codes "e", codes "{}") ∷ []) [] ≡ record { end = ReadFault Insns; out = [] }
+not_there : outcome (codes "list" ∷ codes "insns=d" ∷ []) ((codes "e", codes "{}") ∷ []) [] ≡ Err (NotRead Insns)
 not_there = refl
 
-other_command : outcome (codes "--help" ∷ []) [] [] ≡ record { end = Usage 0; out = [] }
+other_command : outcome (codes "--help" ∷ []) [] [] ≡ Ok (record { end = Usage 0; out = [] })
 other_command = refl
 
 refused_text : message (Usage 12) ≡ codes "usage 12\n"
@@ -45,28 +58,24 @@ line_text : message (Question (Line 12 5 (codes "missing Rd"))) ≡ codes "line 
 unfolding digits
 line_text = refl
 
--- a command, and the document that it names
-abbrev opened_by : List (List ℕ) → List ℕ → Result Machine OpeningError
-opened_by on document = of_value (codes "A64") on (read document)
-
 -- a set without leaves, and a stream of one word
-abbrev of_stream : List ℕ → Outcome
-of_stream bytes = after_opening (AskList (record { insns = []; isa = [] }) false 8 []) (opened_by [] (codes "{\"instructions\":[{\"_type\":\"Instruction.InstructionSet\",\"name\":\"A64\"}]}")) bytes
+abbrev of_stream : List ℕ → Result Outcome OpeningError
+of_stream bytes = after_opening (AskList (record { insns = []; isa = [] }) false 8 unconfigured) (machine_in (codes "A64") unconfigured (codes "{\"instructions\":[{\"_type\":\"Instruction.InstructionSet\",\"name\":\"A64\"}]}")) bytes
 
-one_word : of_stream (0 ∷ 0 ∷ 0 ∷ 0 ∷ []) ≡ record { end = Done; out = codes "00000000 00000000 none\n" }
+one_word : of_stream (0 ∷ 0 ∷ 0 ∷ 0 ∷ []) ≡ Ok (record { end = Done; out = codes "00000000 00000000 none\n" })
 unfolding digits serde_json_on_literals
 one_word = refl
 
-one_word_and_a_byte : of_stream (0 ∷ 0 ∷ 0 ∷ 0 ∷ 255 ∷ []) ≡ record { end = Ragged 1; out = codes "00000000 00000000 none\n" ++ codes "00000004 rest ff\n" }
+one_word_and_a_byte : of_stream (0 ∷ 0 ∷ 0 ∷ 0 ∷ 255 ∷ []) ≡ Ok (record { end = Ragged 1; out = codes "00000000 00000000 none\n" ++ codes "00000004 rest ff\n" })
 unfolding digits serde_json_on_literals
 one_word_and_a_byte = refl
 
 -- the limit of that stream is 8 bytes
-past_the_limit : of_stream (0 ∷ 0 ∷ 0 ∷ 0 ∷ 1 ∷ 0 ∷ 0 ∷ 0 ∷ 2 ∷ []) ≡ record { end = Limit Input; out = codes "00000000 00000000 none\n" ++ codes "00000004 00000001 none\n" }
+past_the_limit : of_stream (0 ∷ 0 ∷ 0 ∷ 0 ∷ 1 ∷ 0 ∷ 0 ∷ 0 ∷ 2 ∷ []) ≡ Ok (record { end = Limit Input; out = codes "00000000 00000000 none\n" ++ codes "00000004 00000001 none\n" })
 unfolding digits serde_json_on_literals
 past_the_limit = refl
 
-no_stream : of_stream [] ≡ record { end = Done; out = [] }
+no_stream : of_stream [] ≡ Ok (record { end = Done; out = [] })
 unfolding digits serde_json_on_literals
 no_stream = refl
 
@@ -74,27 +83,32 @@ no_stream = refl
 abbrev conditioned : List ℕ
 conditioned = codes "{\"instructions\":[{\"_type\":\"Instruction.InstructionSet\",\"name\":\"A64\",\"children\":[{\"_type\":\"Instruction.Instruction\",\"name\":\"L\",\"condition\":{\"_type\":\"AST.Identifier\",\"value\":\"F\"}}]}]}"
 
--- what a request to list puts out over that document and one word
-abbrev listed : Result Request ℕ → Outcome
-listed (Ok (AskList release bare limit on)) = after_opening (AskList release bare limit on) (of_value release.isa on (read conditioned)) (0 ∷ 0 ∷ 0 ∷ 0 ∷ [])
-listed other = record { end = Usage 0; out = [] }
+-- what a request to list comes to over that document and one word
+abbrev listed : Result Request ℕ → Result Outcome OpeningError
+listed (Ok (AskList release bare limit asked)) = after_opening (AskList release bare limit asked) (machine_in release.isa asked conditioned) (0 ∷ 0 ∷ 0 ∷ 0 ∷ [])
+listed other = Ok (record { end = Usage 0; out = [] })
 
-abbrev asked : List (List ℕ) → Outcome
+abbrev asked : List (List ℕ) → Result Outcome OpeningError
 asked words = listed (request (codes "list" ∷ codes "insns=d" ∷ words))
 
-not_known : asked [] ≡ record { end = Done; out = codes "00000000 00000000 open L\n" }
+not_known : asked [] ≡ Ok (record { end = Done; out = codes "00000000 00000000 open L\n" })
 unfolding digits serde_json_on_literals number_of_bits
 not_known = refl
 
 -- within the limit, also inside a word, and in bare lines
-bare : asked (codes "form=bare" ∷ codes "max=5" ∷ []) ≡ record { end = Done; out = codes "leaf L\n" }
+bare : asked (codes "form=bare" ∷ codes "max=5" ∷ []) ≡ Ok (record { end = Done; out = codes "leaf L\n" })
 unfolding digits serde_json_on_literals number_of_bits
 bare = refl
 
 -- also where it is named twice
-known : asked (codes "on=E" ∷ codes "on=F" ∷ codes "on=F" ∷ []) ≡ record { end = Done; out = codes "00000000 00000000 one L\n" }
+known : asked (codes "on=E" ∷ codes "on=F" ∷ codes "on=F" ∷ []) ≡ Ok (record { end = Done; out = codes "00000000 00000000 one L\n" })
 unfolding digits serde_json_on_literals number_of_bits
 known = refl
+
+-- and where it is off
+off : asked (codes "off=F" ∷ []) ≡ Ok (record { end = Done; out = codes "00000000 00000000 none\n" })
+unfolding digits serde_json_on_literals number_of_bits
+off = refl
 
 texts : message (ReadFault Input) ≡ codes "read input\n"
 texts = refl
@@ -109,36 +123,36 @@ json_text : message (Document Insns Json) ≡ codes "document insns json\n"
 json_text = refl
 
 -- two leaves of one name
-abbrev of_label : List ℕ → Outcome
-of_label label = after_opening (AskLeaf (record { insns = []; isa = [] }) label) (opened_by [] (codes "{\"instructions\":[{\"_type\":\"Instruction.InstructionSet\",\"name\":\"A64\",\"children\":[{\"_type\":\"Instruction.Instruction\",\"name\":\"DUP\"},{\"_type\":\"Instruction.Instruction\",\"name\":\"DUP\"}]}]}")) []
+abbrev of_label : List ℕ → Result Outcome OpeningError
+of_label label = after_opening (AskLeaf (record { insns = []; isa = [] }) label) (machine_in (codes "A64") unconfigured (codes "{\"instructions\":[{\"_type\":\"Instruction.InstructionSet\",\"name\":\"A64\",\"children\":[{\"_type\":\"Instruction.Instruction\",\"name\":\"DUP\"},{\"_type\":\"Instruction.Instruction\",\"name\":\"DUP\"}]}]}")) []
 
-no_such_leaf : of_label (codes "DUP") ≡ record { end = Question NoLeaf; out = [] }
+no_such_leaf : of_label (codes "DUP") ≡ Ok (record { end = Question NoLeaf; out = [] })
 unfolding digits serde_json_on_literals
 no_such_leaf = refl
 
-second_leaf : of_label (codes "DUP#1") ≡ record { end = Done; out = codes "leaf DUP#1\npath A64 DUP\nbits xxxxxxxxxxxxxxxxxxxxxxxxxxxxxxxx\nrest 0xffffffff 0x00000000\n" }
+second_leaf : of_label (codes "DUP#1") ≡ Ok (record { end = Done; out = codes "leaf DUP#1\npath A64 DUP\nbits xxxxxxxxxxxxxxxxxxxxxxxxxxxxxxxx\nrest 0xffffffff 0x00000000\n" })
 unfolding digits serde_json_on_literals number_of_bits
 second_leaf = refl
 
 -- ---- `proof`
 
 -- a log of six clauses and this last line
-abbrev proof_of : List ℕ → Outcome
+abbrev proof_of : List ℕ → Result Outcome OpeningError
 proof_of last = outcome (codes "proof" ∷ codes "log=g" ∷ []) ((codes "g", codes "p 3 6 1\nc 3 1\nc 3 -2\nc -3 -1 2\nc 3\nc 1\nc -2\n" ++ last) ∷ []) []
 
-refuted : proof_of (codes "s : 4 5 3 6\n") ≡ record { end = Done; out = codes "refuted 1\n" }
+refuted : proof_of (codes "s : 4 5 3 6\n") ≡ Ok (record { end = Done; out = codes "refuted 1\n" })
 unfolding digits
 refuted = refl
 
-literals_left : proof_of (codes "s : 4 3 6\n") ≡ record { end = Done; out = codes "fails 0\n" }
+literals_left : proof_of (codes "s : 4 3 6\n") ≡ Ok (record { end = Done; out = codes "fails 0\n" })
 unfolding digits
 literals_left = refl
 
-not_falsified : proof_of (codes "s : 4 5\n") ≡ record { end = Done; out = codes "fails 0\n" }
+not_falsified : proof_of (codes "s : 4 5\n") ≡ Ok (record { end = Done; out = codes "fails 0\n" })
 unfolding digits
 not_falsified = refl
 
-past_the_variables : proof_of (codes "s 4 :\n") ≡ record { end = Document Log (Syntax 44); out = [] }
+past_the_variables : proof_of (codes "s 4 :\n") ≡ Err (Refused Log (Syntax 44))
 unfolding digits
 past_the_variables = refl
 
@@ -149,4 +163,4 @@ syntax_text = refl
 -- ---- words whose results are each other's streams
 
 inverse : AreInverse (codes "list" ∷ codes "insns=d" ∷ codes "form=bare" ∷ []) (codes "asm" ∷ codes "insns=d" ∷ [])
-inverse = record { release = record { insns = codes "d"; isa = codes "A64" }; on = []; list_limit = 4294967296; asm_limit = 4294967296; lists = refl; assembles = refl }
+inverse = record { release = record { insns = codes "d"; isa = codes "A64" }; asked = unconfigured; list_limit = 4294967296; asm_limit = 4294967296; lists = refl; assembles = refl }

@@ -1,13 +1,14 @@
 -- What each status of a run says: its cause, the bytes on `out` and the text on `err`.
-use Rattle.std.specs.Prelude.{◌≡◌, ◌⊎◌, ℕ, ◌≤◌, List, Ok, Err}
+use Rattle.std.specs.Prelude.{◌≡◌, ◌⊎◌, ℕ, ℤ, ◌≤◌, List, true, Ok, Err, ⊤}
 use Rattle.std.specs.Io.KnownBytes.{Keeps}
 use Rattle.spec_io.specs.States.{Writing}
 use Rattle.spec_command.specs.Commands.{Request}
 use Rattle.spec_command.specs.Request.{request}
-use Rattle.spec_run.specs.End.{End, Done, Ragged, Usage, Document, Question, ReadFault, WriteFault, Limit, NoMemory, Input, message}
-use Rattle.spec_run.specs.Opening.{OpeningError, NotRead, TooLong, Refused}
+use Rattle.spec_run.specs.End.{End, Done, Ragged, Usage, Document, Refuted, Question, NoFeature, ReadFault, WriteFault, Limit, NoMemory, Input, message}
+use Rattle.spec_run.specs.Opening.{OpeningError, NotRead, TooLong, Refused, UnknownPin, NoneFits}
+use Rattle.spec_run.specs.Refutation.{IsRefutation}
 use Rattle.spec_run.specs.Opens.{ShelfStill, DocumentsGive, IsUnopened}
-use Rattle.spec_run.specs.Commands.{Needs, opened, work_of}
+use Rattle.spec_run.specs.Commands.{Needs, opened, work_of, names_document}
 use Rattle.spec_run.specs.Ran.{Ran}
 use Rattle.spec_run.specs.Scene.{Scene, TookText, Kept}
 
@@ -18,10 +19,26 @@ pub record Untouched (s : Scene) : Type 0 where
   pub count : s.out_after.faults ≡ s.out.faults
 
 module _ (s : Scene) (asked : Request) where
+  -- a document that the error names is one that the words name
+  abbrev pub IsOfWords : OpeningError → Type 0
+  IsOfWords (NotRead which) = names_document asked which ≡ true
+  IsOfWords (TooLong which) = names_document asked which ≡ true
+  IsOfWords (Refused which fault) = names_document asked which ≡ true
+  IsOfWords error = ⊤
+
   -- what is asked for is not opened, which decides before the question and the stream
   pub record OpeningDecides (error : OpeningError) : Type 0 where
     pub cause : IsUnopened (opened asked) s.shelf s.shelf_after error
+    pub named : IsOfWords error
     pub untouched : Untouched s
+
+  -- no configuration fits, and the text is that of a log of so many steps which refutes the clauses that say so. Where the shelf
+  -- tells its documents, these are the clauses of features and pins
+  pub record NothingFits (steps : ℕ) (text : List ℕ) : Type 0 where
+    pub variables : ℕ
+    pub clauses : List (List ℤ)
+    pub refutation : IsRefutation variables clauses steps text
+    pub decides : OpeningDecides (NoneFits variables clauses)
 
   -- what is asked for is opened, and then the command's work decides
   pub record WorkDecides (end : End) : Type 0 where
@@ -40,6 +57,8 @@ module _ (s : Scene) (asked : Request) where
   Means Done = WorkDecides Done
   Means (Ragged rest) = WorkDecides (Ragged rest)
   Means (Document which fault) = OpeningDecides (Refused which fault)
+  Means (Refuted steps log) = NothingFits steps log
+  Means (Question (NoFeature pin)) = OpeningDecides (UnknownPin pin)
   Means (Question fault) = WorkDecides (Question fault)
   Means (ReadFault Input) = WorkDecides (ReadFault Input)
   Means (ReadFault which) = OpeningDecides (NotRead which)

@@ -1,6 +1,5 @@
 -- `asm`: the words that the lines of a stream are assembled to.
 use Rattle.std.specs.Prelude.{ℕ, List, length, take, nat_lt, Option, Some, None, if◌then◌else◌}
-use Rattle.spec_instructions.specs.Tree.{Own}
 use Rattle.spec_decode.specs.Machine.{Machine}
 use Rattle.spec_lines.specs.Reasons.{reason}
 use Rattle.spec_lines.specs.Assembly.{BadLine, Assembled, assembled_from, assembled}
@@ -9,20 +8,20 @@ use Rattle.spec_run.specs.End.{End, Done, Question, Line, Limit, Input}
 use Rattle.spec_run.specs.Work.{Outcome, Over}
 
 -- a line that is refused decides, and else the run ends so
-abbrev pub or_refused : List (List Own) → End → Option BadLine → End
-or_refused paths end None = end
-or_refused paths end (Some bad) = Question (Line bad.number bad.fault.at (reason paths bad.fault.why))
+abbrev pub or_refused : Machine → End → Option BadLine → End
+or_refused machine end None = end
+or_refused machine end (Some bad) = Question (Line bad.number bad.fault.at (reason machine bad.fault.why))
 
 -- the words of the lines before the first that is refused go out
-abbrev pub assembly_outcome : List (List Own) → End → Assembled → Outcome
-assembly_outcome paths end a = record { end = or_refused paths end a.refused; out = a.bytes }
+abbrev pub assembly_outcome : Machine → End → Assembled → Outcome
+assembly_outcome machine end a = record { end = or_refused machine end a.refused; out = a.bytes }
 
 -- Each line gives a word; the last may lack its LF. Past the limit, only the lines whose LF lies within it do; the one that is
 -- left open there is refused where it is already too long.
 abbrev pub asm_outcome : Machine → ℕ → List ℕ → Outcome
 asm_outcome machine limit bytes =
-    if nat_lt limit (length bytes) then assembly_outcome machine.paths (Limit Input) (assembled_cut machine (cut (take limit bytes)))
-    else assembly_outcome machine.paths Done (assembled machine bytes)
+    if nat_lt limit (length bytes) then assembly_outcome machine (Limit Input) (assembled_cut machine (cut (take limit bytes)))
+    else assembly_outcome machine Done (assembled machine bytes)
 
 -- as many bytes of the stream as the limit says are taken; one more may be read
 abbrev pub asm_work : Machine → ℕ → Over

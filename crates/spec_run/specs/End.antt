@@ -2,9 +2,10 @@
 use Rattle.std.specs.Prelude.{ℕ, List, [], ◌∷◌, ◌++◌, codes, decimal, ⊤}
 use Rattle.spec_walk.specs.Event.{Fault, Why, Missing, UnlistedKind, WrongShape, BadPattern, BadRange, BadName, Doubled, TooMany, NoSet}
 
--- what a status names: the Instructions document, the log, or the stream
+-- what a status names: the Instructions document, the Features document, the log, or the stream
 pub data Which : Type 0 where
   Insns : Which
+  Features : Which
   Log : Which
   Input : Which
 
@@ -14,17 +15,20 @@ pub data DocFault : Type 0 where
   Schema : Fault → DocFault
   Syntax : ℕ → DocFault
 
--- a question has no answer: no leaf has the label, or a line is refused: its number, counted from 1, the byte, and the reason
+-- a question has no answer: the pin of that number, counted from 0, names no boolean parameter; no leaf has the label; or a line
+-- is refused: its number, counted from 1, the byte, and the reason
 pub data QuestionFault : Type 0 where
+  NoFeature : ℕ → QuestionFault
   NoLeaf : QuestionFault
   Line : (number at : ℕ) → (reason : List ℕ) → QuestionFault
 
--- the statuses
+-- the statuses. Where no configuration fits, the status has the number of steps of a log that shows it, and the log's text
 pub data End : Type 0 where
   Done : End
   Ragged : ℕ → End
   Usage : ℕ → End
   Document : Which → DocFault → End
+  Refuted : (steps : ℕ) → (log : List ℕ) → End
   Question : QuestionFault → End
   ReadFault : Which → End
   WriteFault : End
@@ -35,6 +39,7 @@ pub data End : Type 0 where
 
 -- a question that is asked before the stream is looked at; one on what stands in the stream is none of these
 abbrev pub IsAsked : QuestionFault → Type 0
+IsAsked (NoFeature pin) = ⊤
 IsAsked NoLeaf = ⊤
 IsAsked (Line number at reason) = ⊥
 
@@ -42,10 +47,13 @@ IsAsked (Line number at reason) = ⊥
 abbrev pub IsEarly : End → Type 0
 IsEarly (Usage place) = ⊤
 IsEarly (Document which fault) = ⊤
+IsEarly (Refuted steps log) = ⊤
 IsEarly (Question fault) = IsAsked fault
 IsEarly (ReadFault Insns) = ⊤
+IsEarly (ReadFault Features) = ⊤
 IsEarly (ReadFault Log) = ⊤
 IsEarly (Limit Insns) = ⊤
+IsEarly (Limit Features) = ⊤
 IsEarly (Limit Log) = ⊤
 IsEarly end = ⊥
 
@@ -61,6 +69,7 @@ exit_number Done = 0
 exit_number (Ragged rest) = 1
 exit_number (Usage place) = 2
 exit_number (Document which fault) = 3
+exit_number (Refuted steps log) = 4
 exit_number (Question fault) = 5
 exit_number (ReadFault which) = 6
 exit_number WriteFault = 7
@@ -69,6 +78,7 @@ exit_number NoMemory = 9
 
 abbrev pub which_text : Which → List ℕ
 which_text Insns = codes "insns"
+which_text Features = codes "features"
 which_text Log = codes "log"
 which_text Input = codes "input"
 
@@ -90,6 +100,7 @@ fault_text (Schema fault) = why_text fault.why ++ 32 ∷ fault.at
 fault_text (Syntax at) = codes "syntax " ++ decimal at
 
 abbrev pub question_text : QuestionFault → List ℕ
+question_text (NoFeature pin) = codes "feature " ++ decimal pin
 question_text NoLeaf = codes "leaf"
 question_text (Line number at reason) = codes "line " ++ (decimal number ++ (32 ∷ (decimal at ++ 32 ∷ reason)))
 
@@ -98,6 +109,7 @@ message Done = []
 message (Ragged rest) = []
 message (Usage place) = codes "usage " ++ (decimal place ++ 10 ∷ [])
 message (Document which fault) = codes "document " ++ (which_text which ++ (32 ∷ (fault_text fault ++ 10 ∷ [])))
+message (Refuted steps log) = log
 message (Question fault) = question_text fault ++ 10 ∷ []
 message (ReadFault which) = codes "read " ++ (which_text which ++ 10 ∷ [])
 message WriteFault = codes "write out" ++ 10 ∷ []

@@ -3,8 +3,8 @@ use Rattle.std.specs.Prelude.{◌≡◌, ◌⊎◌, ℕ, List, Some, ⊤}
 use Rattle.std.specs.Io.KnownBytes.{Appends}
 use Rattle.spec_io.specs.Faults.{Rose}
 use Rattle.spec_io.specs.Documents.{Document as Named}
-use Rattle.spec_run.specs.End.{End, ReadFault, WriteFault, NoMemory, Input, IsEarly}
-use Rattle.spec_run.specs.Outcome.{outcome}
+use Rattle.spec_run.specs.End.{End, ReadFault, WriteFault, NoMemory, Input}
+use Rattle.spec_run.specs.Outcome.{outcome, EndsAs, out_of, EndsEarly}
 use Rattle.spec_run.specs.Scene.{Scene, TookPrefix}
 use Rattle.spec_run.specs.Answers.{Says}
 
@@ -17,7 +17,7 @@ IsAnswer end = ⊤
 
 -- the status and the bytes on `out` are the outcome's
 abbrev pub GivesOutcome : List (List ℕ) → Scene → List Named → List ℕ → End → Type 0
-GivesOutcome words s docs bytes end = ((outcome words docs bytes).end ≡ end) × Appends s.out.taken s.out_after.taken (outcome words docs bytes).out
+GivesOutcome words s docs bytes end = EndsAs (outcome words docs bytes) end × Appends s.out.taken s.out_after.taken (out_of (outcome words docs bytes))
 
 -- every answer is the outcome's
 abbrev pub AnswersAreExact : Type 0
@@ -26,7 +26,7 @@ AnswersAreExact = (words : List (List ℕ)) (s : Scene) (docs : List Named) (byt
 -- where no count of shelf, source or sink rose, the run ends as the outcome does, or memory ran out
 abbrev pub RunsComplete : Type 0
 RunsComplete = (words : List (List ℕ)) (s : Scene) (docs : List Named) (bytes : List ℕ) (end : End) → s.shelf.documents ≡ Some docs → s.input.left ≡ Some bytes → Says words s end
-    → ¬ Rose s.shelf.faults s.shelf_after.faults → ¬ Rose s.input.faults s.input_after.faults → ¬ Rose s.out.faults s.out_after.faults → ((outcome words docs bytes).end ≡ end) ⊎ (end ≡ NoMemory)
+    → ¬ Rose s.shelf.faults s.shelf_after.faults → ¬ Rose s.input.faults s.input_after.faults → ¬ Rose s.out.faults s.out_after.faults → EndsAs (outcome words docs bytes) end ⊎ (end ≡ NoMemory)
 
 -- a fault of the stream or of the sink comes only where nothing before the command's output decides
 abbrev pub IsLate : End → Type 0
@@ -35,7 +35,7 @@ IsLate WriteFault = ⊤
 IsLate end = ⊥
 
 abbrev pub FaultsComeLate : Type 0
-FaultsComeLate = (words : List (List ℕ)) (s : Scene) (docs : List Named) (bytes : List ℕ) (end : End) → s.shelf.documents ≡ Some docs → s.input.left ≡ Some bytes → Says words s end → IsLate end → ¬ IsEarly (outcome words docs bytes).end
+FaultsComeLate = (words : List (List ℕ)) (s : Scene) (docs : List Named) (bytes : List ℕ) (end : End) → s.shelf.documents ≡ Some docs → s.input.left ≡ Some bytes → Says words s end → IsLate end → ¬ EndsEarly (outcome words docs bytes)
 
 -- after a failed read of the stream, after a failed write, and when memory ran out, a prefix of the outcome's bytes went out
 abbrev pub IsCut : End → Type 0
@@ -45,4 +45,4 @@ IsCut NoMemory = ⊤
 IsCut end = ⊥
 
 abbrev pub PrefixesGoOut : Type 0
-PrefixesGoOut = (words : List (List ℕ)) (s : Scene) (docs : List Named) (bytes : List ℕ) (end : End) → s.shelf.documents ≡ Some docs → s.input.left ≡ Some bytes → Says words s end → IsCut end → TookPrefix s.out s.out_after (outcome words docs bytes).out
+PrefixesGoOut = (words : List (List ℕ)) (s : Scene) (docs : List Named) (bytes : List ℕ) (end : End) → s.shelf.documents ≡ Some docs → s.input.left ≡ Some bytes → Says words s end → IsCut end → TookPrefix s.out s.out_after (out_of (outcome words docs bytes))

@@ -1,11 +1,13 @@
 pub mod End
-pub mod Pins
 pub mod Opening
+pub mod Refutation
 pub mod Opens
 pub mod Work
 pub mod Logs
 pub mod Listing
 pub mod Assembling
+pub mod Configuring
+pub mod Checking
 pub mod Commands
 pub mod Outcome
 pub mod Scene
@@ -15,3 +17,4 @@ pub mod Fits
 pub mod Exact
 pub mod RoundTrip
 pub mod Fields
+pub mod First

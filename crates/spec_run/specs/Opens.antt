@@ -1,15 +1,9 @@
 -- What became of an opening: what the documents give, and the shelf before it and after it.
-use Rattle.std.specs.Prelude.{◌≡◌, ◌⊎◌, List, Result, Err, IfSome, IsSomeAnd, ⊤}
+use Rattle.std.specs.Prelude.{◌≡◌, ◌⊎◌, List, Result, Err, IfSome, IsSomeAnd}
 use Rattle.spec_io.specs.Faults.{Rose}
 use Rattle.spec_io.specs.Documents.{Document as Named}
 use Rattle.spec_io.specs.States.{Shelving}
-use Rattle.spec_run.specs.End.{Which, Input}
-use Rattle.spec_run.specs.Opening.{OpeningError, NotRead, TooLong, Refused}
-
--- the stream is no document
-abbrev pub IsDocument : Which → Type 0
-IsDocument Input = ⊥
-IsDocument which = ⊤
+use Rattle.spec_run.specs.Opening.{OpeningError, NotRead}
 
 -- the shelf's count of faults stays
 abbrev pub ShelfStill : Shelving → Shelving → Type 0
@@ -20,13 +14,12 @@ module _ {A : Type 0} (given : List Named → Result A OpeningError) (shelf shel
   abbrev pub DocumentsGive : Result A OpeningError → Type 0
   DocumentsGive result = IfSome shelf.documents (λ docs. given docs ≡ result)
 
-  -- a document that is asked for: where documents lack it, it is the one that is not read
-  abbrev pub IsNamed : Which → Type 0
-  IsNamed which = IsDocument which × ((lacking : List Named) × (given lacking ≡ Err (NotRead which)))
+  -- the documents give this error, and the shelf did not fail
+  abbrev pub Gives : OpeningError → Type 0
+  Gives error = DocumentsGive (Err error) × ShelfStill shelf shelf_after
 
-  -- nothing is opened: a document that is asked for gives this error; where it was not read, the shelf tells that it holds
-  -- none of that name, or it failed
+  -- nothing is opened: the documents give this error; where one was not read, the shelf tells that it holds none of that name, or
+  -- it failed
   abbrev pub IsUnopened : OpeningError → Type 0
-  IsUnopened (NotRead which) = IsNamed which × (Rose shelf.faults shelf_after.faults ⊎ IsSomeAnd shelf.documents (λ docs. given docs ≡ Err (NotRead which)))
-  IsUnopened (TooLong which) = IsNamed which × DocumentsGive (Err (TooLong which)) × ShelfStill shelf shelf_after
-  IsUnopened (Refused which fault) = IsNamed which × DocumentsGive (Err (Refused which fault)) × ShelfStill shelf shelf_after
+  IsUnopened (NotRead which) = Rose shelf.faults shelf_after.faults ⊎ IsSomeAnd shelf.documents (λ docs. given docs ≡ Err (NotRead which))
+  IsUnopened error = Gives error
