@@ -189,13 +189,13 @@ module _ (lister : Lister) where
       abbrev last : Assembled
       last = assembled_from a.number m (a.left.items ∷ [])
 
-      whole_is : asm_outcome m limit p.done ≡ assembly_outcome m.paths run.Done (followed None p.bytes last)
-      whole_is = asm_whole m limit p.done (omega (arith, p.size_is)) ∙ ap (assembly_outcome m.paths run.Done) (all_lines m p.done a.number a.left.items p.bytes p.so_far)
+      whole_is : asm_outcome m limit p.done ≡ assembly_outcome m run.Done (followed None p.bytes last)
+      whole_is = asm_whole m limit p.done (omega (arith, p.size_is)) ∙ ap (assembly_outcome m run.Done) (all_lines m p.done a.number a.left.items p.bytes p.so_far)
 
       few : ReadsAtMost r0 r1 (limit + 1)
       few = record { bytes = p.done; taken = p.read; few = omega (arith, p.size_is) }
 
-      told_end : (end : run.End) (out : List ℕ) → assembly_outcome m.paths run.Done (followed None p.bytes last) ≡ record { end = end; out = out } → Appends w0.taken w2.taken out → Listed work r0 w0 w2 end
+      told_end : (end : run.End) (out : List ℕ) → assembly_outcome m run.Done (followed None p.bytes last) ≡ record { end = end; out = out } → Appends w0.taken w2.taken out → Listed work r0 w0 w2 end
       told_end end out e wrote =
           let all = whole_is ∙ e in
           whole_told work r0 r1 w0 w2 p.done end p.read at_end (ap (λ o. o.end) all) (subst (Appends w0.taken w2.taken) (sym (ap (λ o. o.out) all)) wrote)
@@ -214,7 +214,7 @@ module _ (lister : Lister) where
         is = refl;
         ran = record {
           meaning = (
-            told_end run.Done (p.bytes ++ h.0) (ap (λ x. assembly_outcome m.paths run.Done (followed None p.bytes x)) h.1) (Appends-trans w0.taken w1.taken w2.taken _ _ p.wrote h.2),
+            told_end run.Done (p.bytes ++ h.0) (ap (λ x. assembly_outcome m run.Done (followed None p.bytes x)) h.1) (Appends-trans w0.taken w1.taken w2.taken _ _ p.wrote h.2),
             at_end,
           );
           reading = few;
@@ -227,7 +227,7 @@ module _ (lister : Lister) where
         is = (h.0, h.1, refl);
         ran = record {
           meaning =
-              told_end (refusal lister h.0) (p.bytes ++ []) (ap (λ x. assembly_outcome m.paths run.Done (followed None p.bytes x)) h.2)
+              told_end (refusal lister h.0) (p.bytes ++ []) (ap (λ x. assembly_outcome m run.Done (followed None p.bytes x)) h.2)
               (Appends-trans w0.taken w1.taken w2.taken _ _ p.wrote h.3);
           reading = few;
           input_count = il;

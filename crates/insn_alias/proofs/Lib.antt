@@ -1,2 +1,2 @@
 mod PreferenceLaws
-mod WalkLaws
+pub mod WalkLaws

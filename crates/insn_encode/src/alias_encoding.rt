@@ -1,12 +1,12 @@
 //! Fields, rests and words, by the aliases of a tree: those of the path that ends at the alias, its own items and its
 //! condition included. The preference plays no part.
 
-ghost use Rattle.std.specs.Prelude.{◌≡◌, ◌<◌, ◌≤◌, ◌+◌, ◌↔◌, ℕ, List, All, length, map};
+ghost use Rattle.std.specs.Prelude.{◌≡◌, ◌<◌, ◌≤◌, ◌+◌, ◌↔◌, ℕ, List, All, length, map, slice_index_or};
 ghost use Rattle.spec_encoding.specs.Refusal.{with_node};
 ghost use Rattle.spec_encoding.specs.PathLayout as path;
 ghost use Rattle.spec_encoding.specs.Encoding.{encoding, Encodes};
 ghost use Rattle.mrs_names.specs.Texts.{AreNames};
-ghost use Rattle.mrs_arena.specs.Placed.{text_of, aliases_of, AreHeld};
+ghost use Rattle.mrs_arena.specs.Placed.{text_of, path_to, aliases_of, AreHeld};
 ghost use Rattle.ast_eval.specs.Choices.{configuration_of};
 ghost use Rattle.insn_tree.specs.Trees.{alias_path_at};
 ghost use Rattle.insn_encode.specs.Shown.{field_by};
@@ -59,6 +59,9 @@ pub fn encode_alias(
     // the word is answered exactly where it is encoded
     ensures word { (names : List (List ℕ)) → AreHeldBy names tree.now.nodes config.now → All (λ pair. pair.0.0 < length names) pairs.now → (w : ℕ)
         → (result ≡ Ok w) ↔ Encodes (alias_path_at names tree.now a.0) (configuration_of (text_of names) config.now) (map (pair_by names) pairs.now) rest w }
+
+    // the path of the alias is that to its node
+    ensures path { (names : List (List ℕ)) → alias_path_at names tree.now a.0 ≡ path_to names tree.now.nodes (slice_index_or (aliases_of tree.now.nodes) a.0 0) }
 {
     encode_along(
         tree.arena(),

@@ -19,15 +19,17 @@ use Rattle.spec_encoding.specs.PathLayout.{layout, shown, is_shown, excluded_at}
 use Rattle.spec_encoding.specs.Encoding.{named_field, encoding}
 use Rattle.spec_encoding.proofs.ExclusionLaws.{exclusion_is_exact}
 use Rattle.spec_lines.specs.Given as spec
+use Rattle.spec_lines.specs.Way.{Way}
 use Rattle.mrs_names.specs.declared.name_id.NameId.{NameId}
-use Rattle.mrs_arena.specs.Placed.{text_of, leaves_of}
+use Rattle.mrs_arena.specs.Placed.{text_of, path_to}
 use Rattle.insn_tree.specs.declared.field_range.FieldRange.{FieldRange}
-use Rattle.insn_tree.specs.Trees.{TreeParts, path_at, field_of}
+use Rattle.insn_tree.specs.Trees.{TreeParts, field_of}
 use Rattle.insn_encode.specs.declared.fault.EncodeFault.{EncodeFault}
 use Rattle.insn_encode.specs.declared.fault.EncodeFault.TheVariants as fault
-use Rattle.insn_encode.specs.Held.{pair_by, refusal_by, answer_by, leaf_node_at}
+use Rattle.insn_encode.specs.Held.{pair_by, refusal_by, answer_by, node_at}
 use Rattle.list_words.specs.declared.given.Given.{Given}
 use Rattle.list_words.specs.Names.{is_other}
+use Rattle.list_words.specs.Ways.{way_node, path_along}
 use Rattle.list_words.specs.Faults.{IsWithin}
 use Rattle.list_words.specs.Givens.{IsGiven}
 use Rattle.list_words.specs.Encoded.{Encodes, IsRefusedAt, or_next}
@@ -82,13 +84,17 @@ module _ (p : List Own) (g : Configuration) (pairs : List (List ℕ × ℕ)) (re
 abbrev Answer : Type 0
 Answer = Result ℕ (Refusal (List ℕ))
 
+-- the path is that to its node
+abbrev pub IsToNode : List (List ℕ) → TreeParts → Way → Type 0
+IsToNode names tree way = path_along names tree way ≡ path_to names tree.nodes (way_node tree.nodes way)
+
 -- what is answered is the encoding, by the texts of names and the places of nodes
-pub answered : (names : List (List ℕ)) (tree : TreeParts) (k : ℕ) (answer : Result ℕ EncodeFault) (told : Answer) → k < length (leaves_of tree.nodes) → answer_by names answer ≡ with_node (leaf_node_at tree.nodes k) told
-    → ((r : Refusal (List ℕ)) → told ≡ Err r → IsWithin (length (path_at names tree k)) r) → Encodes names tree k answer told
-answered names tree k (Ok w) (Ok v) leaf same within = cc
-answered names tree k (Ok w) (Err r) leaf same within = absurd cc
-answered names tree k (Err code) (Ok v) leaf same within = absurd cc
-answered names tree k (Err code) (Err r) leaf same within = record { refusal = r; is = refl; refusal_is = record { leaf = leaf; node = within r refl; same = cc } }
+pub answered : (names : List (List ℕ)) (tree : TreeParts) (way : Way) (answer : Result ℕ EncodeFault) (told : Answer) → IsToNode names tree way → answer_by names answer ≡ with_node (node_at tree.nodes (way_node tree.nodes way)) told
+    → ((r : Refusal (List ℕ)) → told ≡ Err r → IsWithin (length (path_along names tree way)) r) → Encodes names tree way answer told
+answered names tree way (Ok w) (Ok v) path_is same within = cc
+answered names tree way (Ok w) (Err r) path_is same within = absurd cc
+answered names tree way (Err code) (Ok v) path_is same within = absurd cc
+answered names tree way (Err code) (Err r) path_is same within = record { refusal = r; is = refl; refusal_is = record { path = path_is; node = within r refl; same = cc } }
 
 renumbered-unknown : (e : ℕ → ℕ) (i : ℕ) (r : Refusal (List ℕ)) → UnknownField i ≡ renumbered e r → r ≡ UnknownField i
 renumbered-unknown e i (refusal.UnknownField j) h = cc
@@ -158,11 +164,11 @@ position-append test k (z ∷ xs) ys x h = go (test z) (position-append test (k 
 
 -- ---- what is given
 
-module _ (names : List (List ℕ)) (fields : List FieldRange) (code : Given) (given : spec.Given) (h : IsGiven names fields code given) (tree : TreeParts) (k : ℕ) (leaf : k < length (leaves_of tree.nodes)) (g : Configuration)
-    (visible : map (field_of names) fields ≡ path.fields (path_at names tree k)) (answer : Result ℕ EncodeFault)
-    (same : answer_by names answer ≡ with_node (leaf_node_at tree.nodes k) (encoding (path_at names tree k) g (map (pair_by names) code.pairs) (unwrap_or code.rest 0))) where
+module _ (names : List (List ℕ)) (fields : List FieldRange) (code : Given) (given : spec.Given) (h : IsGiven names fields code given) (tree : TreeParts) (way : Way) (path_is : IsToNode names tree way) (g : Configuration)
+    (visible : map (field_of names) fields ≡ path.fields (path_along names tree way)) (answer : Result ℕ EncodeFault)
+    (same : answer_by names answer ≡ with_node (node_at tree.nodes (way_node tree.nodes way)) (encoding (path_along names tree way) g (map (pair_by names) code.pairs) (unwrap_or code.rest 0))) where
   abbrev p : List Own
-  p = path_at names tree k
+  p = path_along names tree way
 
   abbrev rest : ℕ
   rest = unwrap_or given.rest 0
@@ -170,16 +176,16 @@ module _ (names : List (List ℕ)) (fields : List FieldRange) (code : Given) (gi
   abbrev n : ℕ
   n = length code.pairs
 
-  same_kept : answer_by names answer ≡ with_node (leaf_node_at tree.nodes k) (encoding p g (take n given.pairs) rest)
+  same_kept : answer_by names answer ≡ with_node (node_at tree.nodes (way_node tree.nodes way)) (encoding p g (take n given.pairs) rest)
   same_kept =
-      same ∙ ap (λ r. with_node (leaf_node_at tree.nodes k) (encoding p g (map (pair_by names) code.pairs) (unwrap_or r 0))) h.rest
-      ∙ ap (λ ps. with_node (leaf_node_at tree.nodes k) (encoding p g ps rest)) h.same
+      same ∙ ap (λ r. with_node (node_at tree.nodes (way_node tree.nodes way)) (encoding p g (map (pair_by names) code.pairs) (unwrap_or r 0))) h.rest
+      ∙ ap (λ ps. with_node (node_at tree.nodes (way_node tree.nodes way)) (encoding p g ps rest)) h.same
 
   -- where all names are those of fields
-  pub all-encoded : n ≡ code.count → Encodes names tree k answer (encoding p g given.pairs rest)
+  pub all-encoded : n ≡ code.count → Encodes names tree way answer (encoding p g given.pairs rest)
   all-encoded e =
       let whole : take n given.pairs ≡ given.pairs = ap (λ i. take i given.pairs) (e ∙ h.count) ∙ take-length given.pairs in
-      answered names tree k answer (encoding p g given.pairs rest) leaf (same_kept ∙ ap (λ ps. with_node (leaf_node_at tree.nodes k) (encoding p g ps rest)) whole) (encoding-within p g given.pairs rest)
+      answered names tree way answer (encoding p g given.pairs rest) path_is (same_kept ∙ ap (λ ps. with_node (node_at tree.nodes (way_node tree.nodes way)) (encoding p g ps rest)) whole) (encoding-within p g given.pairs rest)
 
   abbrev test : List ℕ × ℕ → Bool
   test = is_unknown bytes_eq (map named_field (shown p))
@@ -199,31 +205,31 @@ module _ (names : List (List ℕ)) (fields : List FieldRange) (code : Given) (gi
       ∙ ap (λ i. Some (or_else (position_from test 0 (take n given.pairs)) i)) count
 
   -- where that of pair number n is not
-  pub next-encoded : n < length given.pairs → IsRefusedAt names tree k (or_next answer n) (encoding p g given.pairs rest)
+  pub next-encoded : n < length given.pairs → IsRefusedAt names tree way (or_next answer n) (encoding p g given.pairs rest)
   next-encoded below = go (position_from test 0 (take n given.pairs)) refl
     where
-      told : (i : ℕ) → or_next answer n ≡ fault.UnknownField i → position_from test 0 given.pairs ≡ Some i → IsRefusedAt names tree k (or_next answer n) (encoding p g given.pairs rest)
+      told : (i : ℕ) → or_next answer n ≡ fault.UnknownField i → position_from test 0 given.pairs ≡ Some i → IsRefusedAt names tree way (or_next answer n) (encoding p g given.pairs rest)
       told i is at = record {
         refusal = UnknownField i;
         is = ap (λ o. unless o UnknownField (known p g given.pairs rest)) at;
-        refusal_is = record { leaf = leaf; node = tt; same = ap (refusal_by names) is };
+        refusal_is = record { path = path_is; node = tt; same = ap (refusal_by names) is };
       }
 
-      go : (o : Option ℕ) → position_from test 0 (take n given.pairs) ≡ o → IsRefusedAt names tree k (or_next answer n) (encoding p g given.pairs rest)
+      go : (o : Option ℕ) → position_from test 0 (take n given.pairs) ≡ o → IsRefusedAt names tree way (or_next answer n) (encoding p g given.pairs rest)
       go None e =
           let here : encoding p g (take n given.pairs) rest ≡ known p g (take n given.pairs) rest = ap (λ o. unless o UnknownField (known p g (take n given.pairs) rest)) e in
-          told n (next-told names (leaf_node_at tree.nodes k) answer (encoding p g (take n given.pairs) rest) n same_kept (λ i bad. known-not_unknown p g (take n given.pairs) rest i (sym here ∙ bad))) (found below ∙ ap (λ o. Some (or_else o n)) e)
+          told n (next-told names (node_at tree.nodes (way_node tree.nodes way)) answer (encoding p g (take n given.pairs) rest) n same_kept (λ i bad. known-not_unknown p g (take n given.pairs) rest i (sym here ∙ bad))) (found below ∙ ap (λ o. Some (or_else o n)) e)
       go (Some i) e =
           let here : encoding p g (take n given.pairs) rest ≡ Err (UnknownField i) = ap (λ o. unless o UnknownField (known p g (take n given.pairs) rest)) e in
-          told i (first-told names (leaf_node_at tree.nodes k) answer i n (same_kept ∙ ap (with_node (leaf_node_at tree.nodes k)) here)) (found below ∙ ap (λ o. Some (or_else o n)) e)
+          told i (first-told names (node_at tree.nodes (way_node tree.nodes way)) answer i n (same_kept ∙ ap (with_node (node_at tree.nodes (way_node tree.nodes way))) here)) (found below ∙ ap (λ o. Some (or_else o n)) e)
 
 -- what is answered on some pairs and a rest is answered on equal ones
-pub answered-same : (names : List (List ℕ)) (tree : TreeParts) (k : ℕ) (g : Configuration) (answer : Result ℕ EncodeFault) (ps qs : List (NameId × ℕ)) (r s : ℕ)
-    → answer_by names answer ≡ with_node (leaf_node_at tree.nodes k) (encoding (path_at names tree k) g (map (pair_by names) ps) r) → ps ≡ qs → r ≡ s
-    → answer_by names answer ≡ with_node (leaf_node_at tree.nodes k) (encoding (path_at names tree k) g (map (pair_by names) qs) s)
-answered-same names tree k g answer ps qs r s same pairs rest =
-    same ∙ ap (λ (xs : List (NameId × ℕ)). with_node (leaf_node_at tree.nodes k) (encoding (path_at names tree k) g (map (pair_by names) xs) r)) pairs
-    ∙ ap (λ x. with_node (leaf_node_at tree.nodes k) (encoding (path_at names tree k) g (map (pair_by names) qs) x)) rest
+pub answered-same : (names : List (List ℕ)) (tree : TreeParts) (way : Way) (g : Configuration) (answer : Result ℕ EncodeFault) (ps qs : List (NameId × ℕ)) (r s : ℕ)
+    → answer_by names answer ≡ with_node (node_at tree.nodes (way_node tree.nodes way)) (encoding (path_along names tree way) g (map (pair_by names) ps) r) → ps ≡ qs → r ≡ s
+    → answer_by names answer ≡ with_node (node_at tree.nodes (way_node tree.nodes way)) (encoding (path_along names tree way) g (map (pair_by names) qs) s)
+answered-same names tree way g answer ps qs r s same pairs rest =
+    same ∙ ap (λ (xs : List (NameId × ℕ)). with_node (node_at tree.nodes (way_node tree.nodes way)) (encoding (path_along names tree way) g (map (pair_by names) xs) r)) pairs
+    ∙ ap (λ x. with_node (node_at tree.nodes (way_node tree.nodes way)) (encoding (path_along names tree way) g (map (pair_by names) qs) x)) rest
 
 abbrev pub AreHeldPairs : List (List ℕ) → List (NameId × ℕ) → Type 0
 AreHeldPairs names pairs = All (λ (pair : NameId × ℕ). pair.0.0 < length names) pairs

@@ -1,5 +1,9 @@
 pub mod HexSteps
+pub mod HexPairs
+pub mod Decimals
 pub mod SliceLaws
+pub mod WayLaws
+pub mod AliasLaws
 pub mod PairLaws
 pub mod FoundLaws
 pub mod DigitLaws

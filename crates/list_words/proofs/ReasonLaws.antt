@@ -8,25 +8,29 @@ use Rattle.spec_encoding.specs.Refusal as refusal
 use Rattle.spec_encoding.specs.Refusal.{Refusal, renumbered}
 use Rattle.spec_lines.specs.LineFault as spec
 use Rattle.spec_lines.specs.Reasons as text
+use Rattle.spec_lines.specs.Way.{Way}
 use Rattle.mrs_arena.specs.Paths.{ancestors}
 use Rattle.mrs_arena.specs.Nodes.{parents_of}
-use Rattle.mrs_arena.specs.Placed.{own_at, path_to, leaves_of, no_own}
-use Rattle.insn_tree.specs.Trees.{TreeParts, path_at, tree_paths}
+use Rattle.mrs_arena.specs.Placed.{own_at, path_to, no_own}
+use Rattle.insn_tree.specs.Trees.{TreeParts}
+use Rattle.ast_eval.specs.Choices.{Choices}
 use Rattle.insn_encode.specs.declared.fault.EncodeFault.{EncodeFault}
 use Rattle.insn_encode.specs.declared.fault.EncodeFault.TheVariants as fault
-use Rattle.insn_encode.specs.Held.{leaf_node_at, refusal_by}
+use Rattle.insn_encode.specs.Held.{node_at, refusal_by}
 use Rattle.list_words.specs.declared.line_fault.LineWhy.{LineWhy}
 use Rattle.list_words.specs.declared.line_fault.LineWhy.TheVariants as why
 use Rattle.list_words.specs.Faults.{IsWithin, IsRefusalAt, IsWhy}
 use Rattle.list_words.specs.Told.{node_name, refusal_told, reason_told}
+use Rattle.list_words.specs.Machines.{machine_of}
+use Rattle.list_words.specs.Ways.{way_node, path_along}
+use Rattle.list_words.proofs.EncodeLaws.{IsToNode}
+use Rattle.list_words.proofs.WayLaws.{machine_path}
 
 module _ (names : List (List ℕ)) (tree : TreeParts) where
-  -- a node of a leaf's path
-  node-named : (k place : ℕ) → k < length (leaves_of tree.nodes) → place < length (path_at names tree k) → node_name names tree.nodes (leaf_node_at tree.nodes k place) ≡ text.node_name (path_at names tree k) place
-  node-named k place leaf within =
-      let n : ℕ = get_or (leaves_of tree.nodes) k 0 in
-      let up : List ℕ = reverse (ancestors (parents_of tree.nodes) n) in
-      let here : path_at names tree k ≡ map (own_at names tree.nodes) up = get_or-map (path_to names tree.nodes) (leaves_of tree.nodes) k 0 [] leaf in
+  -- a node of a path
+  node-named : (way : Way) (place : ℕ) → IsToNode names tree way → place < length (path_along names tree way) → node_name names tree.nodes (node_at tree.nodes (way_node tree.nodes way) place) ≡ text.node_name (path_along names tree way) place
+  node-named way place here within =
+      let up : List ℕ = reverse (ancestors (parents_of tree.nodes) (way_node tree.nodes way)) in
       let below : place < length (map (own_at names tree.nodes) up) = subst (λ (p : List Own). place < length p) here within in
       let low : place < length up = omega (arith, below, length-map up (own_at names tree.nodes)) in
       let at : get_or (map (own_at names tree.nodes) up) place no_own ≡ own_at names tree.nodes (get_or up place 0) = get_or-map (own_at names tree.nodes) up place 0 no_own low in
@@ -53,23 +57,23 @@ module _ (names : List (List ℕ)) (tree : TreeParts) where
   told-by_numbers (fault.RestBit bit) = refl
   told-by_numbers (fault.Excluded node) = refl
 
-  by_numbers-placed : (k : ℕ) → k < length (leaves_of tree.nodes) → (told : Refusal (List ℕ)) → IsWithin (length (path_at names tree k)) told → by_numbers (renumbered (leaf_node_at tree.nodes k) told) ≡ text.refusal_text (path_at names tree k) told
-  by_numbers-placed k leaf (refusal.UnknownField i) within = refl
-  by_numbers-placed k leaf (refusal.DoubledField i) within = refl
-  by_numbers-placed k leaf (refusal.MissingField name) within = refl
-  by_numbers-placed k leaf (refusal.TooWide i) within = refl
-  by_numbers-placed k leaf (refusal.Clash bit) within = refl
-  by_numbers-placed k leaf (refusal.FixedBit bit) within = refl
-  by_numbers-placed k leaf (refusal.RestBit bit) within = refl
-  by_numbers-placed k leaf (refusal.Excluded node) within = ap (λ name. codes "excluded " ++ name) (node-named k node leaf within)
+  by_numbers-placed : (way : Way) → IsToNode names tree way → (told : Refusal (List ℕ)) → IsWithin (length (path_along names tree way)) told → by_numbers (renumbered (node_at tree.nodes (way_node tree.nodes way)) told) ≡ text.refusal_text (path_along names tree way) told
+  by_numbers-placed way here (refusal.UnknownField i) within = refl
+  by_numbers-placed way here (refusal.DoubledField i) within = refl
+  by_numbers-placed way here (refusal.MissingField name) within = refl
+  by_numbers-placed way here (refusal.TooWide i) within = refl
+  by_numbers-placed way here (refusal.Clash bit) within = refl
+  by_numbers-placed way here (refusal.FixedBit bit) within = refl
+  by_numbers-placed way here (refusal.RestBit bit) within = refl
+  by_numbers-placed way here (refusal.Excluded node) within = ap (λ name. codes "excluded " ++ name) (node-named way node here within)
 
-  refusal-same : (code : EncodeFault) (k : ℕ) (told : Refusal (List ℕ)) → IsRefusalAt names tree code k told → refusal_told names tree.nodes code ≡ text.refusal_text (path_at names tree k) told
-  refusal-same code k told h = told-by_numbers code ∙ ap by_numbers h.same ∙ by_numbers-placed k h.leaf told h.node
+  refusal-same : (code : EncodeFault) (way : Way) (told : Refusal (List ℕ)) → IsRefusalAt names tree code way told → refusal_told names tree.nodes code ≡ text.refusal_text (path_along names tree way) told
+  refusal-same code way told h = told-by_numbers code ∙ ap by_numbers h.same ∙ by_numbers-placed way h.path told h.node
 
-  pub reason-same : (code : LineWhy) (told : spec.LineWhy) → IsWhy names tree code told → reason_told names tree.nodes code ≡ text.reason (tree_paths names tree) told
-  reason-same why.Long told h = ap (text.reason (tree_paths names tree)) (sym h)
-  reason-same why.Head told h = ap (text.reason (tree_paths names tree)) (sym h)
-  reason-same why.Label told h = ap (text.reason (tree_paths names tree)) (sym h)
-  reason-same why.Pair told h = ap (text.reason (tree_paths names tree)) (sym h)
-  reason-same why.Many told h = ap (text.reason (tree_paths names tree)) (sym h)
-  reason-same (why.Encode code) told h = refusal-same code h.k h.refusal h.refusal_is ∙ ap (text.reason (tree_paths names tree)) (sym h.is)
+  pub reason-same : (config : Choices) (code : LineWhy) (told : spec.LineWhy) → IsWhy names tree code told → reason_told names tree.nodes code ≡ text.reason (machine_of names tree config) told
+  reason-same config why.Long told h = ap (text.reason (machine_of names tree config)) (sym h)
+  reason-same config why.Head told h = ap (text.reason (machine_of names tree config)) (sym h)
+  reason-same config why.Label told h = ap (text.reason (machine_of names tree config)) (sym h)
+  reason-same config why.Pair told h = ap (text.reason (machine_of names tree config)) (sym h)
+  reason-same config why.Many told h = ap (text.reason (machine_of names tree config)) (sym h)
+  reason-same config (why.Encode code) told h = refusal-same code h.way h.refusal h.refusal_is ∙ ap (λ (p : List Own). text.refusal_text p h.refusal) (sym (machine_path names tree config h.way)) ∙ ap (text.reason (machine_of names tree config)) (sym h.is)

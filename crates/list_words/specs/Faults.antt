@@ -3,13 +3,15 @@ use Rattle.std.specs.Prelude.{◌≡◌, ◌<◌, ℕ, List, length, ⊤, Result
 use Rattle.spec_encoding.specs.Refusal as refusal
 use Rattle.spec_encoding.specs.Refusal.{Refusal, renumbered}
 use Rattle.spec_lines.specs.LineFault as spec
-use Rattle.mrs_arena.specs.Placed.{leaves_of}
-use Rattle.insn_tree.specs.Trees.{TreeParts, path_at}
+use Rattle.spec_lines.specs.Way.{Way}
+use Rattle.mrs_arena.specs.Placed.{path_to}
+use Rattle.insn_tree.specs.Trees.{TreeParts}
 use Rattle.insn_encode.specs.declared.fault.EncodeFault.{EncodeFault}
-use Rattle.insn_encode.specs.Held.{leaf_node_at, refusal_by}
+use Rattle.insn_encode.specs.Held.{node_at, refusal_by}
 use Rattle.list_words.specs.declared.line_fault.LineFault.{LineFault}
 use Rattle.list_words.specs.declared.line_fault.LineWhy.{LineWhy}
 use Rattle.list_words.specs.declared.line_fault.LineWhy.TheVariants as why
+use Rattle.list_words.specs.Ways.{way_node, path_along}
 
 -- a refusal names a node that is one of so many
 abbrev pub IsWithin : ℕ → Refusal (List ℕ) → Type 0
@@ -22,18 +24,19 @@ IsWithin count (refusal.FixedBit bit) = ⊤
 IsWithin count (refusal.RestBit bit) = ⊤
 IsWithin count (refusal.Excluded node) = node < count
 
--- a refusal of leaf k: the encoder's names are told by their texts, and the node is that of a place along the leaf's path
-pub record IsRefusalAt (names : List (List ℕ)) (tree : TreeParts) (code : EncodeFault) (k : ℕ) (told : Refusal (List ℕ)) : Type 0 where
-  pub leaf : k < length (leaves_of tree.nodes)
-  pub node : IsWithin (length (path_at names tree k)) told
-  pub same : refusal_by names code ≡ renumbered (leaf_node_at tree.nodes k) told
+-- a refusal of a leaf or an alias, whose path is that to its node: the encoder's names are told by their texts, and the node
+-- is that of a place along the path
+pub record IsRefusalAt (names : List (List ℕ)) (tree : TreeParts) (code : EncodeFault) (way : Way) (told : Refusal (List ℕ)) : Type 0 where
+  pub path : path_along names tree way ≡ path_to names tree.nodes (way_node tree.nodes way)
+  pub node : IsWithin (length (path_along names tree way)) told
+  pub same : refusal_by names code ≡ renumbered (node_at tree.nodes (way_node tree.nodes way)) told
 
--- the same for some leaf
+-- the same for some leaf or alias
 pub record IsEncode (names : List (List ℕ)) (tree : TreeParts) (code : EncodeFault) (told : spec.LineWhy) : Type 0 where
-  pub k : ℕ
+  pub way : Way
   pub refusal : Refusal (List ℕ)
-  pub is : told ≡ spec.Encode k refusal
-  pub refusal_is : IsRefusalAt names tree code k refusal
+  pub is : told ≡ spec.Encode way refusal
+  pub refusal_is : IsRefusalAt names tree code way refusal
 
 abbrev pub IsWhy : List (List ℕ) → TreeParts → LineWhy → spec.LineWhy → Type 0
 IsWhy names tree why.Long told = told ≡ spec.Long

@@ -1,3 +1,4 @@
+pub mod Ways
 pub mod Machines
 pub mod Listers
 pub mod Down

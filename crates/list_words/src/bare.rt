@@ -1,11 +1,13 @@
 //! The bare line of a word, which is read back to the word.
 ghost use Rattle.std.specs.Prelude.{◌≡◌, ◌++◌, OnOk};
-ghost use Rattle.spec_lines.specs.BareLine.{word_text, bare_text, bare_line};
+ghost use Rattle.spec_lines.specs.BareLine.{word_text, bare_way, bare_text, bare_line};
 ghost use Rattle.list_words.specs.Listers.{IsOneRelease, machine};
+ghost use Rattle.list_words.specs.Ways.{way_by, IsWayOf};
 
 use crate::hex::push_hex;
 use crate::lister::Lister;
-use crate::lone_leaf::push_lone_leaf;
+use crate::way::Way;
+use crate::written::push_written;
 use insn_decode::Found;
 use std::alloc::AllocError;
 
@@ -17,16 +19,26 @@ fn push_word(out: &mut Vec<u8>, word: u32) -> Result<(), AllocError>
     push_hex(out, u64::from(word), 8)
 }
 
-/// Appends a lone leaf with its fields and its rest, or else the word.
+/// Appends a leaf or an alias, with the fields and the rest of a word.
+fn push_way(out: &mut Vec<u8>, lister: &Lister<'_>, way: Way, word: u32) -> Result<(), AllocError>
+    requires release { IsOneRelease lister.now }
+    requires way { IsWayOf lister.now.tree.now (way_by way) }
+    ensures { OnOk result (out.new.items ≡ out.old.items ++ bare_way (machine lister.now) word (way_by way)) }
+{
+    match way {
+        Way::Leaf(_) => out.extend_from_slice(b"leaf ")?,
+        Way::Alias(_) => out.extend_from_slice(b"alias ")?,
+    }
+    push_written(out, lister, way, word)
+}
+
+/// Appends a lone leaf, or the alias that is preferred at it, with its fields and its rest; or else the word.
 fn push_bare(out: &mut Vec<u8>, lister: &Lister<'_>, word: u32) -> Result<(), AllocError>
     requires { IsOneRelease lister.now }
     ensures { OnOk result (out.new.items ≡ out.old.items ++ bare_text (machine lister.now) word) }
 {
     match lister.decide(word) {
-        Found::Lone(leaf, _) => {
-            out.extend_from_slice(b"leaf ")?;
-            push_lone_leaf(out, lister, leaf, word)
-        }
+        Found::Lone(leaf, _) => push_way(out, lister, Way::of(lister, leaf, word), word),
         Found::Nothing | Found::Several => push_word(out, word),
     }
 }

@@ -74,7 +74,7 @@ fn push_lone(
 ) -> Result<(), AllocError>
     requires release { IsOneRelease lister.now }
     requires leaf { leaf.0 < length (machine lister.now).paths }
-    ensures { OnOk result (out.new.items ≡ out.old.items ++ leaves_text (machine lister.now).paths word (record { leaf = leaf.0; verdict = truth_of verdict } ∷ [])) }
+    ensures { OnOk result (out.new.items ≡ out.old.items ++ leaves_text (machine lister.now) word (record { leaf = leaf.0; verdict = truth_of verdict } ∷ [])) }
 {
     out.extend_from_slice(lone_word(verdict))?;
     push_lone_leaf(out, lister, leaf, word)
@@ -83,7 +83,7 @@ fn push_lone(
 /// Appends what a word is: no leaf, one, or several.
 fn push_leaves(out: &mut Vec<u8>, lister: &Lister<'_>, word: u32) -> Result<(), AllocError>
     requires { IsOneRelease lister.now }
-    ensures { OnOk result (out.new.items ≡ out.old.items ++ leaves_text (machine lister.now).paths word (found (machine lister.now).paths (machine lister.now).configuration word)) }
+    ensures { OnOk result (out.new.items ≡ out.old.items ++ leaves_text (machine lister.now) word (found (machine lister.now).paths (machine lister.now).configuration word)) }
 {
     match lister.decide(word) {
         Found::Nothing => {

@@ -11,6 +11,7 @@ mod full;
 mod given;
 mod hex;
 mod label;
+mod leaf_aliases;
 mod leaf_fields;
 mod leaf_text;
 mod line_fault;
@@ -29,6 +30,8 @@ mod streams;
 mod tests;
 mod token;
 mod tokens;
+mod way;
+mod written;
 
 pub use bare::push_bare_line;
 pub use full::push_line;

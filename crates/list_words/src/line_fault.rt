@@ -14,9 +14,9 @@ pub struct LineFault {
 pub enum LineWhy {
     /// The line has more than 65,536 bytes.
     Long,
-    /// The first token is neither `leaf` nor `word`, or there is none.
+    /// The first token is none of `leaf`, `alias` and `word`, or there is none.
     Head,
-    /// The token behind `leaf` is no label of a leaf, or there is none.
+    /// The token behind `leaf` is no label of a leaf, or that behind `alias` none of an alias, or there is none.
     Label,
     /// The token behind `word` is no number below 2^32, or there is none, or a third token follows; or a token behind a label
     /// is no `NAME=NUMBER`, or is a second `rest=`.

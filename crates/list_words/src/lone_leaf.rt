@@ -1,15 +1,41 @@
-//! A leaf with the fields and the rest that a word has at it.
+//! A leaf at which a word is found alone.
 ghost use Rattle.std.specs.Prelude.{◌≡◌, ◌++◌, ◌<◌, length, OnOk};
-ghost use Rattle.spec_lines.specs.LoneLeaf.{lone_leaf};
+ghost use Rattle.spec_lines.specs.LoneLeaf.{lone_leaf, lone_by};
 ghost use Rattle.list_words.specs.Listers.{IsOneRelease, machine};
+ghost use Rattle.list_words.specs.Ways.{way_by, IsWayOf};
 
 use crate::label::push_label;
 use crate::lister::Lister;
-use crate::pairs::push_pairs;
+use crate::way::Way;
+use crate::written::push_written;
 use insn_tree::LeafId;
 use std::alloc::AllocError;
 
-/// Appends the label of a leaf, and the fields and the rest of a word at it.
+/// Appends a leaf that a word is told by in that way.
+fn push_by(
+    out: &mut Vec<u8>,
+    lister: &Lister<'_>,
+    leaf: LeafId,
+    way: Way,
+    w: u32,
+) -> Result<(), AllocError>
+    requires release { IsOneRelease lister.now }
+    requires leaf { leaf.0 < length (machine lister.now).paths }
+    requires way { IsWayOf lister.now.tree.now (way_by way) }
+    ensures { OnOk result (out.new.items ≡ out.old.items ++ lone_by (machine lister.now) leaf.0 w (way_by way)) }
+{
+    match way {
+        Way::Leaf(_) => {}
+        Way::Alias(_) => {
+            push_label(out, lister.tree, lister.names, leaf)?;
+            out.extend_from_slice(b" alias ")?;
+        }
+    }
+    push_written(out, lister, way, w)
+}
+
+/// Appends the label of a leaf, and the fields and the rest of a word at it; or, where an alias is preferred, the label of the
+/// leaf and behind it the alias, with the fields and the rest of the alias.
 pub(crate) fn push_lone_leaf(
     out: &mut Vec<u8>,
     lister: &Lister<'_>,
@@ -18,8 +44,7 @@ pub(crate) fn push_lone_leaf(
 ) -> Result<(), AllocError>
     requires release { IsOneRelease lister.now }
     requires leaf { leaf.0 < length (machine lister.now).paths }
-    ensures { OnOk result (out.new.items ≡ out.old.items ++ lone_leaf (machine lister.now).paths leaf.0 w) }
+    ensures { OnOk result (out.new.items ≡ out.old.items ++ lone_leaf (machine lister.now) leaf.0 w) }
 {
-    push_label(out, lister.tree, lister.names, leaf)?;
-    push_pairs(out, lister, leaf, w)
+    push_by(out, lister, leaf, Way::of(lister, leaf, w), w)
 }

@@ -1,18 +1,20 @@
-//! The fields and the rest of a word at a leaf.
-ghost use Rattle.std.specs.Prelude.{◌≡◌, ◌+◌, ◌++◌, ◌<◌, ◌≤◌, length, OnOk, flat_map, slice_index_or, []};
+//! The fields and the rest of a word at a leaf or an alias.
+ghost use Rattle.std.specs.Prelude.{◌≡◌, ◌+◌, ◌++◌, ◌<◌, ◌≤◌, length, OnOk, flat_map};
 ghost use Rattle.spec_bits.specs.Bits.{slice};
 ghost use Rattle.spec_encoding.specs.Encoding.{own_pairs};
 ghost use Rattle.spec_lines.specs.Pairs.{pair_text, rest_text, pairs_text};
+ghost use Rattle.spec_lines.specs.Way.{way_path};
 ghost use Rattle.mrs_arena.specs.Placed.{text_of};
 ghost use Rattle.list_words.specs.Listers.{IsOneRelease, machine};
+ghost use Rattle.list_words.specs.Ways.{way_by, IsWayOf};
 
 use crate::decimal::push_decimal;
 use crate::hex::push_hex;
 use crate::lister::Lister;
 use crate::name::name_bytes;
+use crate::way::Way;
 use bit_pattern::Range;
-use insn_encode::{rest_of, shown};
-use insn_tree::{FieldRange, LeafId};
+use insn_tree::FieldRange;
 use mrs_names::Names;
 use std::alloc::AllocError;
 
@@ -37,18 +39,13 @@ fn push_pair(out: &mut Vec<u8>, names: &Names, field: FieldRange, w: u32) -> Res
     push_decimal(out, value_in(w, field.range))
 }
 
-/// Appends the shown fields of a word at a leaf.
-fn push_fields(
-    out: &mut Vec<u8>,
-    lister: &Lister<'_>,
-    leaf: LeafId,
-    w: u32,
-) -> Result<(), AllocError>
+/// Appends the shown fields of a word at a leaf or an alias.
+fn push_fields(out: &mut Vec<u8>, lister: &Lister<'_>, way: Way, w: u32) -> Result<(), AllocError>
     requires release { IsOneRelease lister.now }
-    requires leaf { leaf.0 < length (machine lister.now).paths }
-    ensures { OnOk result (out.new.items ≡ out.old.items ++ flat_map pair_text (own_pairs (slice_index_or (machine lister.now).paths leaf.0 []) w)) }
+    requires way { IsWayOf lister.now.tree.now (way_by way) }
+    ensures { OnOk result (out.new.items ≡ out.old.items ++ flat_map pair_text (own_pairs (way_path (machine lister.now) (way_by way)) w)) }
 {
-    for field in shown(lister.tree, leaf) {
+    for field in way.shown(lister) {
         push_pair(out, lister.names, field, w)?;
     }
     Ok(())
@@ -65,17 +62,17 @@ fn push_rest(out: &mut Vec<u8>, rest: u32) -> Result<(), AllocError>
     push_hex(out, u64::from(rest), 8)
 }
 
-/// Appends the shown fields and the rest of a word at a leaf.
+/// Appends the shown fields and the rest of a word at a leaf or an alias.
 pub(crate) fn push_pairs(
     out: &mut Vec<u8>,
     lister: &Lister<'_>,
-    leaf: LeafId,
+    way: Way,
     w: u32,
 ) -> Result<(), AllocError>
     requires release { IsOneRelease lister.now }
-    requires leaf { leaf.0 < length (machine lister.now).paths }
-    ensures { OnOk result (out.new.items ≡ out.old.items ++ pairs_text (slice_index_or (machine lister.now).paths leaf.0 []) w) }
+    requires way { IsWayOf lister.now.tree.now (way_by way) }
+    ensures { OnOk result (out.new.items ≡ out.old.items ++ pairs_text (way_path (machine lister.now) (way_by way)) w) }
 {
-    push_fields(out, lister, leaf, w)?;
-    push_rest(out, rest_of(lister.tree, leaf, w))
+    push_fields(out, lister, way, w)?;
+    push_rest(out, way.rest_of(lister, w))
 }

@@ -1,12 +1,12 @@
 //! Reads lines of assembly.
 
-ghost use Rattle.std.specs.Prelude.{◌≡◌, ◌<◌, ℕ, List, length, Err};
+ghost use Rattle.std.specs.Prelude.{◌≡◌, ℕ, List, Err};
 ghost use Rattle.spec_lines.specs.Parsed as spec;
 ghost use Rattle.spec_lines.specs.Given.{nothing, given_behind};
-ghost use Rattle.mrs_arena.specs.Placed.{leaves_of};
 ghost use Rattle.insn_tree.specs.Trees.{TreeParts};
 ghost use Rattle.list_words.specs.Faults.{Answers};
 ghost use Rattle.list_words.specs.Listers.{IsOneRelease, machine};
+ghost use Rattle.list_words.specs.Ways.{way_by, IsWayOf};
 
 use crate::encoding::encode_given;
 use crate::given::{Given, read_given};
@@ -14,7 +14,7 @@ use crate::line_fault::{LineFault, LineWhy};
 use crate::lister::Lister;
 use crate::pair::NUMBER_BOUND;
 use crate::tokens::{MOST_BYTES, Tokens};
-use insn_tree::LeafId;
+use crate::way::Way;
 use number_text::number_below;
 
 /// A line that is refused at a place, as no word.
@@ -26,8 +26,8 @@ fn refused(at: u32, why: LineWhy) -> Result<u32, LineFault>
 
 /// What a line says, given without its LF: the word, or the first reason why it says none.
 ///
-/// A line is `word NUMBER`, or `leaf LABEL` with a `NAME=NUMBER` for each shown field of the leaf, and maybe `rest=NUMBER`,
-/// in any order. Spaces stand between these, and may stand around them. It has at most 65,536 bytes. Nothing is taken of memory.
+/// A line is `word NUMBER`, or `leaf LABEL` or `alias LABEL` with a `NAME=NUMBER` for each shown field of the leaf or the alias,
+/// and maybe `rest=NUMBER`, in any order. Spaces stand between these, and may stand around them. It has at most 65,536 bytes. Nothing is taken of memory.
 pub fn read_bare(l: &Lister<'_>, text: &[u8]) -> Result<u32, LineFault>
     requires { IsOneRelease l.now }
     ensures { Answers l.now.names.now l.now.tree.now result (spec.parsed (machine l.now) text.now) }
@@ -45,6 +45,9 @@ pub fn read_bare(l: &Lister<'_>, text: &[u8]) -> Result<u32, LineFault>
     }
     if head.text == b"leaf".as_slice() {
         return read_leaf(l, end, tokens);
+    }
+    if head.text == b"alias".as_slice() {
+        return read_alias(l, end, tokens);
     }
     refused(head.at, LineWhy::Head)
 }
@@ -76,18 +79,32 @@ fn read_leaf(l: &Lister<'_>, end: u32, mut tokens: Tokens<'_>) -> Result<u32, Li
     let Some(leaf) = l.tree.find_label_bytes(l.names, label.text) else {
         return refused(label.at, LineWhy::Label);
     };
-    read_fields(l, label.at, leaf, tokens)
+    read_fields(l, label.at, Way::Leaf(leaf), tokens)
 }
 
-/// What the tokens behind the label of a leaf say, which stands at `at`.
-fn read_fields(l: &Lister<'_>, at: u32, leaf: LeafId, tokens: Tokens<'_>) -> Result<u32, LineFault>
+/// What the tokens behind `alias` say in a line that ends at `end`.
+fn read_alias(l: &Lister<'_>, end: u32, mut tokens: Tokens<'_>) -> Result<u32, LineFault>
+    requires { IsOneRelease l.now }
+    ensures { Answers l.now.names.now l.now.tree.now result (spec.of_alias (machine l.now) end tokens.entry) }
+{
+    let Some(label) = tokens.next() else {
+        return refused(end, LineWhy::Label);
+    };
+    let Some(alias) = l.tree.find_alias_bytes(l.names, label.text) else {
+        return refused(label.at, LineWhy::Label);
+    };
+    read_fields(l, label.at, Way::Alias(alias), tokens)
+}
+
+/// What the tokens behind the label of a leaf or an alias say, which stands at `at`.
+fn read_fields(l: &Lister<'_>, at: u32, way: Way, tokens: Tokens<'_>) -> Result<u32, LineFault>
     requires release { IsOneRelease l.now }
-    requires leaf { leaf.0 < length (leaves_of l.now.tree.now.nodes) }
-    ensures { Answers l.now.names.now l.now.tree.now result (spec.of_given (machine l.now) at leaf.0 (given_behind nothing tokens.entry)) }
+    requires way { IsWayOf l.now.tree.now (way_by way) }
+    ensures { Answers l.now.names.now l.now.tree.now result (spec.of_given (machine l.now) at (way_by way) (given_behind nothing tokens.entry)) }
 {
     let mut given = Given::nothing();
-    read_given(l.names, l.tree.fields(leaf), tokens, &mut given)?;
-    match encode_given(l, leaf, &given) {
+    read_given(l.names, way.fields(l), tokens, &mut given)?;
+    match encode_given(l, way, &given) {
         Ok(w) => Ok(w),
         Err(fault) => refused(at, LineWhy::Encode(fault)),
     }

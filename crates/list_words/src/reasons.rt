@@ -4,7 +4,9 @@ ghost use Rattle.std.specs.Prelude.{◌≡◌, ◌++◌, ℕ, List, codes, decim
 ghost use Rattle.spec_lines.specs.LineFault as spec;
 ghost use Rattle.spec_lines.specs.Reasons.{reason};
 ghost use Rattle.mrs_arena.specs.Placed.{text_of};
-ghost use Rattle.insn_tree.specs.Trees.{TreeParts, tree_paths};
+ghost use Rattle.insn_tree.specs.Trees.{TreeParts};
+ghost use Rattle.ast_eval.specs.Choices.{Choices};
+ghost use Rattle.list_words.specs.Machines.{machine_of};
 ghost use Rattle.list_words.specs.Faults.{IsFault};
 ghost use Rattle.list_words.specs.Told.{node_name, refusal_told, reason_told};
 
@@ -22,8 +24,8 @@ pub fn push_reason(
     arena: &Arena,
     fault: &LineFault,
 ) -> Result<(), AllocError>
-    ensures { (tree : TreeParts) (told : spec.LineFault) → tree.nodes ≡ arena.now.nodes → IsFault names.now tree fault.now told
-        → OnOk result (out.new.items ≡ out.old.items ++ reason (tree_paths names.now tree) told.why) }
+    ensures { (tree : TreeParts) (config : Choices) (told : spec.LineFault) → tree.nodes ≡ arena.now.nodes → IsFault names.now tree fault.now told
+        → OnOk result (out.new.items ≡ out.old.items ++ reason (machine_of names.now tree config) told.why) }
 {
     push_why(out, names, arena, fault.why)
 }

@@ -1,4 +1,4 @@
-//! Words with both of their lines, of which the bare one is read back, and lines that are refused.
+//! Words with both of their lines, of which the bare one is read back, lines that are refused, and the lines of a leaf.
 
 mod held;
 
@@ -6,14 +6,14 @@ ghost use Rattle.std.specs.Prelude.{◌≡◌, [], IfOk};
 ghost use Rattle.insn_tree.specs.Trees.{IsOf};
 ghost use Rattle.list_words.specs.Listers.{IsOneRelease};
 
-use crate::{LineFault, LineWhy, Lister, bare_line, line, read_bare};
+use crate::{LineFault, LineWhy, Lister, bare_line, line, push_leaf, read_bare};
 use ast_eval::Config;
 use bit_pattern::Pattern;
 use held::are_held;
 use insn_decode::Decider;
 use insn_encode::EncodeFault;
-use insn_tree::Tree;
-use mrs_arena::{Arena, ArenaBuilder, Item, Kind, NodeId};
+use insn_tree::{LeafId, Tree};
+use mrs_arena::{Arena, ArenaBuilder, Expr, Item, Kind, NodeId};
 use mrs_names::{NameId, Names};
 use std::alloc::Global;
 use std::process::Abort;
@@ -22,7 +22,8 @@ use std::test::Fail;
 /// Digits from a bit of the word up, with a mark at each should-be digit.
 type Digits = (u8, &'static str, u32);
 
-/// A node: its kind, its name, the node above it, digits without a name, and its fields with their digits.
+/// A node: its kind, its name, the node above it, digits without a name, and its fields with their digits. An alias is always
+/// preferred.
 type Row = (
     Kind,
     &'static str,
@@ -31,9 +32,9 @@ type Row = (
     &'static [(&'static str, Digits)],
 );
 
-/// In `ADD` bit 7 should be 1, and 16 to 23 are free. One `SUB` has a field of which bit 23 is fixed, and the other is found
-/// at half of its words.
-const ROWS: [Row; 5] = [
+/// In `ADD` bit 7 should be 1, and 16 to 23 are free; its alias asks for a `Rd` of 31. One `SUB` has a
+/// field of which bit 23 is fixed, and the other is found at half of its words.
+const ROWS: [Row; 6] = [
     (Kind::Set, "A64", None, (0, "x", 0), &[]),
     (Kind::Group, "arith", Some(0), (28, "0001", 0), &[]),
     (
@@ -43,6 +44,7 @@ const ROWS: [Row; 5] = [
         (5, "0000xxxxxxxxxxxxxxxx101", 4),
         &[("imm", (8, "xxxxxxxx", 0)), ("Rd", (0, "xxxxx", 0))],
     ),
+    (Kind::Alias, "CMP", Some(2), (0, "11111", 0), &[]),
     (
         Kind::Leaf,
         "SUB",
@@ -98,6 +100,17 @@ fn put(
     for (field, digits) in fields {
         item(rt, builder, *digits, Some(names.intern(field)?))?;
     }
+    match kind {
+        Kind::Alias => prefer(rt, builder),
+        Kind::Set | Kind::Group | Kind::Leaf => Ok(()),
+    }
+}
+
+/// Has the last node always preferred.
+fn prefer(rt: &impl Abort, builder: &mut ArenaBuilder) -> Result<(), Fail> {
+    let always = builder.expr(Expr::Truth(true))?;
+    assert!(rt; !builder.is_place(None));
+    builder.preferred(always);
     Ok(())
 }
 
@@ -123,7 +136,7 @@ fn made(rt: &impl Abort, alloc: Global) -> Result<(Tree, Names), Fail>
 /// Where a word stands, the word, its full line, and its bare line without the line feed.
 type Lines = (u64, u32, &'static str, &'static str);
 
-const LINES: [Lines; 5] = [
+const LINES: [Lines; 7] = [
     (
         0,
         0x1000_2aa3,
@@ -135,6 +148,18 @@ const LINES: [Lines; 5] = [
         0x1001_2a23,
         "100000004 10012a23 one ADD imm=42 Rd=3 rest=0x00010080\n",
         "leaf ADD imm=42 Rd=3 rest=0x00010080",
+    ),
+    (
+        0x10,
+        0x1000_2abf,
+        "00000010 10002abf one ADD alias CMP imm=42\n",
+        "alias CMP imm=42",
+    ),
+    (
+        0x14,
+        0x1001_2a3f,
+        "00000014 10012a3f one ADD alias CMP imm=42 rest=0x00010080\n",
+        "alias CMP imm=42 rest=0x00010080",
     ),
     (
         8,
@@ -173,20 +198,38 @@ fn assert_lines(
     Ok(())
 }
 
-/// Asserts that a line lacks a `=` at byte 17, and that another has too wide a field.
-fn assert_refused(rt: &impl Abort, lister: &Lister<'_>)
+/// Asserts that a line is refused at that byte.
+fn assert_refused(rt: &impl Abort, lister: &Lister<'_>, text: &str, at: u32, why: LineWhy)
     requires { IsOneRelease lister.now }
 {
-    let pair = LineFault {
-        at: 17,
-        why: LineWhy::Pair,
-    };
-    assert_eq!(rt; read_bare(lister, b"leaf SUB#1 Rd=31 sh"), Err(pair));
-    let wide = LineFault {
-        at: 5,
-        why: LineWhy::Encode(EncodeFault::TooWide { i: 1 }),
-    };
-    assert_eq!(rt; read_bare(lister, b"leaf ADD imm=42 Rd=32"), Err(wide));
+    let fault = LineFault { at, why };
+    assert_eq!(rt; read_bare(lister, text.as_bytes()), Err(fault));
+}
+
+/// Asserts why lines are refused: a `=` lacks, a field is too wide, one is not shown at an alias, or no alias has a label.
+fn assert_all_refused(rt: &impl Abort, lister: &Lister<'_>)
+    requires { IsOneRelease lister.now }
+{
+    let wide = LineWhy::Encode(EncodeFault::TooWide { i: 1 });
+    let unknown = LineWhy::Encode(EncodeFault::UnknownField { i: 1 });
+    assert_refused(rt, lister, "leaf SUB#1 Rd=31 sh", 17, LineWhy::Pair);
+    assert_refused(rt, lister, "leaf ADD imm=42 Rd=32", 5, wide);
+    assert_refused(rt, lister, "alias CMP imm=42 Rd=31", 6, unknown);
+    assert_refused(rt, lister, "alias ADD imm=42", 6, LineWhy::Label);
+}
+
+/// All that is shown of `ADD`.
+const ADD: &str =
+    "leaf ADD\npath A64 arith ADD\nbits 00010000xxxxxxxxxxxxxxxxx01xxxxx\nfield imm 8 8 shown\nfield Rd 0 5 shown\nrest 0x00ff0080 0x00000080\nalias CMP\n";
+
+fn assert_leaf(rt: &impl Abort, alloc: Global, tree: &Tree, names: &Names) -> Result<(), Fail>
+    requires { IsOf names.now tree.now }
+{
+    let mut text = Vec::new(alloc);
+    assert!(rt; 0 < tree.leaves());
+    push_leaf(&mut text, tree, names, LeafId(0))?;
+    assert_eq!(rt; text.as_slice(), ADD.as_bytes());
+    Ok(())
 }
 
 /// A configuration that chooses nothing.
@@ -203,7 +246,7 @@ fn assert_all(rt: &impl Abort, alloc: Global, lister: &Lister<'_>) -> Result<(),
     for lines in LINES {
         assert_lines(rt, alloc, lister, lines)?;
     }
-    assert_refused(rt, lister);
+    assert_all_refused(rt, lister);
     Ok(())
 }
 
@@ -226,5 +269,6 @@ fn assert_tree(rt: &impl Abort, alloc: Global, tree: &Tree, names: &Names) -> Re
 #[test]
 fn lines_are_printed_and_read_back(rt: HostRuntime) -> Result<(), Fail> {
     let (tree, names) = made(&rt, rt.alloc())?;
+    assert_leaf(&rt, rt.alloc(), &tree, &names)?;
     assert_tree(&rt, rt.alloc(), &tree, &names)
 }

@@ -1,9 +1,11 @@
 -- The commands and the requests of the code as those of the definition.
-use Rattle.std.specs.Prelude.{◌≤◌, ◌^◌, ⊤}
+use Rattle.std.specs.Prelude.{◌≤◌, ◌^◌, ⊤, length, option_map}
 use Rattle.spec_command.specs.Commands as spec
 use Rattle.mrs_command.specs.declared.commands.Verb.{Verb}
 use Rattle.mrs_command.specs.declared.commands.Verb.TheVariants as verb
 use Rattle.mrs_command.specs.declared.commands.Release.{Release}
+use Rattle.mrs_command.specs.declared.commands.Configured.{Configured}
+use Rattle.mrs_command.specs.declared.commands.Checks.{Checks}
 use Rattle.mrs_command.specs.declared.commands.Request.{Request}
 use Rattle.mrs_command.specs.declared.commands.Request.TheVariants as code
 
@@ -11,20 +13,41 @@ abbrev pub command_of : Verb → spec.Command
 command_of verb.List = spec.list_command
 command_of verb.Asm = spec.asm_command
 command_of verb.Leaf = spec.leaf_command
+command_of verb.Config = spec.config_command
 command_of verb.Proof = spec.proof_command
+command_of verb.Check = spec.check_command
 
 abbrev pub release_of : Release → spec.Release
 release_of release = record { insns = release.insns.now; isa = release.isa.now }
 
+abbrev pub configured_of : Configured → spec.Configured
+configured_of configured = record { features = option_map (λ name. name.now) configured.features; pins = configured.pins }
+
+abbrev pub checks_of : Checks → spec.Checks
+checks_of checks = record { insns = option_map (λ name. name.now) checks.insns; isa = checks.isa.now; features = option_map (λ name. name.now) checks.features }
+
 abbrev pub asked_of : Request → spec.Request
-asked_of (code.List release bare max on) = spec.AskList (release_of release) bare max on
-asked_of (code.Asm release max on) = spec.AskAsm (release_of release) max on
+asked_of (code.List release bare max configured) = spec.AskList (release_of release) bare max (configured_of configured)
+asked_of (code.Asm release max configured) = spec.AskAsm (release_of release) max (configured_of configured)
 asked_of (code.Leaf release label) = spec.AskLeaf (release_of release) label.now
+asked_of (code.Config features pins) = spec.AskConfig features.now pins
 asked_of (code.Proof log) = spec.AskProof log.now
+asked_of (code.Check checks) = spec.AskCheck (checks_of checks)
 
 -- a limit of the stream is at most 2^40 bytes
 abbrev pub IsLimited : Request → Type 0
-IsLimited (code.List release bare max on) = max ≤ 2 ^ 40
-IsLimited (code.Asm release max on) = max ≤ 2 ^ 40
+IsLimited (code.List release bare max configured) = max ≤ 2 ^ 40
+IsLimited (code.Asm release max configured) = max ≤ 2 ^ 40
 IsLimited (code.Leaf release label) = ⊤
+IsLimited (code.Config features pins) = ⊤
 IsLimited (code.Proof log) = ⊤
+IsLimited (code.Check checks) = ⊤
+
+-- there are at most 4,096 pins
+abbrev pub ArePinsFew : Request → Type 0
+ArePinsFew (code.List release bare max configured) = length configured.pins ≤ spec.pin_limit
+ArePinsFew (code.Asm release max configured) = length configured.pins ≤ spec.pin_limit
+ArePinsFew (code.Leaf release label) = ⊤
+ArePinsFew (code.Config features pins) = length pins ≤ spec.pin_limit
+ArePinsFew (code.Proof log) = ⊤
+ArePinsFew (code.Check checks) = ⊤

@@ -1,10 +1,11 @@
 //! The commands: the word that says each, its keys, and what it asks for.
-ghost use Rattle.std.specs.Prelude.{◌≡◌, ◌≤◌, ◌^◌, map, option_map, Some, IfSome};
-ghost use Rattle.spec_command.specs.Commands.{release, form, limit, is_one_of};
+ghost use Rattle.std.specs.Prelude.{◌≡◌, ◌≤◌, ◌^◌, map, option_map, unwrap_or, Some, IfSome, codes};
+ghost use Rattle.spec_command.specs.Commands as spec;
+ghost use Rattle.spec_command.specs.Setting.{value_in};
 ghost use Rattle.spec_command.specs.Request.{command_named};
-ghost use Rattle.mrs_command.specs.Commands.{command_of, release_of, asked_of, IsLimited};
+ghost use Rattle.mrs_command.specs.Commands.{command_of, release_of, configured_of, asked_of, IsLimited};
 
-use crate::names::Names;
+use crate::pins::Pins;
 use crate::settings::Settings;
 use crate::values::{USUAL_LIMIT, bare_by, limit_by};
 
@@ -15,32 +16,55 @@ pub struct Release<'a> {
     pub isa: &'a str,
 }
 
+/// Which features there are: the name of a Features document, where one is named, and the pins, of which there are at most 4,096.
+#[derive(Debug, Drop)]
+pub struct Configured<'a> {
+    pub features: Option<&'a str>,
+    pub pins: Pins<'a>,
+}
+
+/// The documents that are checked, by their names, at least one of which is there: an Instructions document, of which the set
+/// `isa` is read, and a Features document.
+#[derive(Clone, Copy, PartialEq, Eq, Debug)]
+pub struct Checks<'a> {
+    pub insns: Option<&'a str>,
+    pub isa: &'a str,
+    pub features: Option<&'a str>,
+}
+
 /// What the words of a command line ask for: a command, and what its keys say.
 #[derive(Debug, Drop)]
 pub enum Request<'a> {
     /// `list` lists the words of a stream, of which it takes at most `max` bytes, up to 2^40, in full lines or bare ones, under the
-    /// features that are on, of which there are at most 4,096.
+    /// configuration of features.
     List {
         release: Release<'a>,
         bare: bool,
         max: u64,
-        on: Names<'a>,
+        configured: Configured<'a>,
     },
-    /// `asm` assembles the lines of a stream, of which it takes at most `max` bytes, under the features that are on.
+    /// `asm` assembles the lines of a stream, of which it takes at most `max` bytes, under the configuration of features.
     Asm {
         release: Release<'a>,
         max: u64,
-        on: Names<'a>,
+        configured: Configured<'a>,
     },
     /// `leaf` shows the leaf of that label.
     Leaf {
         release: Release<'a>,
         label: &'a str,
     },
+    /// `config` tells the first configuration that fits the document of that name and the pins, of which there are at most 4,096.
+    Config {
+        features: &'a str,
+        pins: Pins<'a>,
+    },
     /// `proof` checks the log of that name.
     Proof {
         log: &'a str,
     },
+    /// `check` checks documents.
+    Check(Checks<'a>),
 }
 
 /// A command.
@@ -49,7 +73,9 @@ pub(crate) enum Verb {
     List,
     Asm,
     Leaf,
+    Config,
     Proof,
+    Check,
 }
 
 impl Verb {
@@ -61,7 +87,9 @@ impl Verb {
             "list" => Some(Verb::List),
             "asm" => Some(Verb::Asm),
             "leaf" => Some(Verb::Leaf),
+            "config" => Some(Verb::Config),
             "proof" => Some(Verb::Proof),
+            "check" => Some(Verb::Check),
             _ => None,
         }
     }
@@ -71,16 +99,18 @@ impl Verb {
         ensures { map (λ key. key.now) result.now ≡ (command_of self).asks.keys }
     {
         match self {
-            Verb::List => &["insns", "isa", "form", "max", "on"],
-            Verb::Asm => &["insns", "isa", "max", "on"],
+            Verb::List => &["insns", "isa", "form", "max", "features", "on", "off"],
+            Verb::Asm => &["insns", "isa", "max", "features", "on", "off"],
             Verb::Leaf => &["insns", "isa", "label"],
+            Verb::Config => &["features", "on", "off"],
             Verb::Proof => &["log"],
+            Verb::Check => &["insns", "isa", "features"],
         }
     }
 
     /// Whether the command has this key.
     pub(crate) fn has_key(self, key: &str) -> bool
-        ensures { result ≡ is_one_of (command_of self).asks.keys key.now }
+        ensures { result ≡ spec.is_one_of (command_of self).asks.keys key.now }
     {
         is_among(self.keys(), key)
     }
@@ -91,52 +121,120 @@ impl Verb {
         ensures limited { IfSome result IsLimited }
     {
         match self {
-            Verb::List => {
-                let release = release_in(settings)?;
-                let bare = is_bare(settings);
-                let max = limit_in(settings);
-                let on = settings.names_on();
-                Some(Request::List {
-                    release,
-                    bare,
-                    max,
-                    on,
-                })
-            }
-            Verb::Asm => {
-                let release = release_in(settings)?;
-                let max = limit_in(settings);
-                let on = settings.names_on();
-                Some(Request::Asm { release, max, on })
-            }
-            Verb::Leaf => {
-                let release = release_in(settings)?;
-                let label = settings.value("label")?;
-                Some(Request::Leaf { release, label })
-            }
-            Verb::Proof => {
-                let log = settings.value("log")?;
-                Some(Request::Proof { log })
-            }
+            Verb::List => list_request(settings),
+            Verb::Asm => asm_request(settings),
+            Verb::Leaf => leaf_request(settings),
+            Verb::Config => config_request(settings),
+            Verb::Proof => proof_request(settings),
+            Verb::Check => check_request(settings),
         }
     }
 }
 
+/// What `list` asks for; `None` exactly where no document is named.
+fn list_request<'a>(settings: &Settings<'a>) -> Option<Request<'a>>
+    ensures asked { option_map asked_of result ≡ spec.list_command.asks.value settings.now }
+    ensures limited { IfSome result IsLimited }
+{
+    Some(Request::List {
+        release: release_in(settings)?,
+        bare: is_bare(settings),
+        max: limit_in(settings),
+        configured: configured_in(settings),
+    })
+}
+
+/// What `asm` asks for; `None` exactly where no document is named.
+fn asm_request<'a>(settings: &Settings<'a>) -> Option<Request<'a>>
+    ensures asked { option_map asked_of result ≡ spec.asm_command.asks.value settings.now }
+    ensures limited { IfSome result IsLimited }
+{
+    Some(Request::Asm {
+        release: release_in(settings)?,
+        max: limit_in(settings),
+        configured: configured_in(settings),
+    })
+}
+
+/// What `leaf` asks for; `None` exactly where no document or no label is named.
+fn leaf_request<'a>(settings: &Settings<'a>) -> Option<Request<'a>>
+    ensures asked { option_map asked_of result ≡ spec.leaf_command.asks.value settings.now }
+    ensures limited { IfSome result IsLimited }
+{
+    let release = release_in(settings)?;
+    let label = settings.value("label")?;
+    Some(Request::Leaf { release, label })
+}
+
+/// What `config` asks for; `None` exactly where no document is named.
+fn config_request<'a>(settings: &Settings<'a>) -> Option<Request<'a>>
+    ensures asked { option_map asked_of result ≡ spec.config_command.asks.value settings.now }
+    ensures limited { IfSome result IsLimited }
+{
+    let features = settings.value("features")?;
+    let pins = settings.pins();
+    Some(Request::Config { features, pins })
+}
+
+/// What `proof` asks for; `None` exactly where no log is named.
+fn proof_request<'a>(settings: &Settings<'a>) -> Option<Request<'a>>
+    ensures asked { option_map asked_of result ≡ spec.proof_command.asks.value settings.now }
+    ensures limited { IfSome result IsLimited }
+{
+    let log = settings.value("log")?;
+    Some(Request::Proof { log })
+}
+
+/// What `check` asks for; `None` exactly where neither document is named.
+fn check_request<'a>(settings: &Settings<'a>) -> Option<Request<'a>>
+    ensures asked { option_map asked_of result ≡ spec.check_command.asks.value settings.now }
+    ensures limited { IfSome result IsLimited }
+{
+    let insns = settings.value("insns");
+    let isa = set_in(settings);
+    let features = settings.value("features");
+    if insns.is_none() && features.is_none() {
+        return None;
+    }
+    Some(Request::Check(Checks {
+        insns,
+        isa,
+        features,
+    }))
+}
+
 /// The set that settings ask for; `None` exactly where they name no document.
 fn release_in<'a>(settings: &Settings<'a>) -> Option<Release<'a>>
-    ensures { option_map release_of result ≡ release.value settings.now }
+    ensures { option_map release_of result ≡ spec.release.value settings.now }
 {
     let insns = settings.value("insns")?;
-    let isa = match settings.value("isa") {
+    let isa = set_in(settings);
+    Some(Release { insns, isa })
+}
+
+/// The name of the set that settings ask for, `A64` where they say none.
+fn set_in<'a>(settings: &Settings<'a>) -> &'a str
+    ensures { result.now ≡ unwrap_or (value_in (codes "isa") settings.now) (codes "A64") }
+{
+    match settings.value("isa") {
         Some(isa) => isa,
         None => "A64",
-    };
-    Some(Release { insns, isa })
+    }
+}
+
+/// What settings say of features.
+fn configured_in<'a>(settings: &Settings<'a>) -> Configured<'a>
+    ensures { Some (configured_of result) ≡ spec.configured.value settings.now }
+{
+    Configured {
+        features: settings.value("features"),
+        pins: settings.pins(),
+    }
 }
 
 /// Whether settings ask for bare lines.
 fn is_bare(settings: &Settings<'_>) -> bool
-    ensures { Some result ≡ form.value settings.now }
+    ensures { Some result ≡ spec.form.value settings.now }
 {
     match settings.value("form") {
         Some(text) => bare_by(text).unwrap_or(false),
@@ -146,7 +244,7 @@ fn is_bare(settings: &Settings<'_>) -> bool
 
 /// How many bytes of the stream settings allow.
 fn limit_in(settings: &Settings<'_>) -> u64
-    ensures limit { Some result ≡ limit.value settings.now }
+    ensures limit { Some result ≡ spec.limit.value settings.now }
     ensures within { result ≤ 2 ^ 40 }
 {
     match settings.value("max") {
@@ -157,7 +255,7 @@ fn limit_in(settings: &Settings<'_>) -> u64
 
 #[tactic(auto, using(crate::proofs::Keys::among_keys))]
 pub(crate) fn is_among(keys: &[&str], key: &str) -> bool
-    ensures { result ≡ is_one_of (map (λ one. one.now) keys.now) key.now }
+    ensures { result ≡ spec.is_one_of (map (λ one. one.now) keys.now) key.now }
 {
     keys.contains(&key)
 }

@@ -4,7 +4,7 @@
 
 mod bad_word;
 mod commands;
-mod names;
+mod pin_words;
 mod pins;
 mod reading;
 mod settings;
@@ -13,6 +13,6 @@ mod tests;
 mod values;
 
 pub use bad_word::BadWord;
-pub use commands::{Release, Request};
-pub use names::Names;
+pub use commands::{Checks, Configured, Release, Request};
+pub use pins::{Pin, Pins};
 pub use reading::read_request;

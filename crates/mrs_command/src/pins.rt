@@ -1,27 +1,60 @@
-//! Pins: words that settle features. Several words may have the key of a pin.
-ghost use Rattle.std.specs.Prelude.{◌≡◌};
-ghost use Rattle.spec_command.specs.Commands as spec;
-ghost use Rattle.spec_command.specs.Pins.{pin_keys};
-ghost use Rattle.spec_command.specs.Request.{is_pin};
+//! The pins that words give: which features are to be on, and which off.
 
-use crate::commands::is_among;
+use crate::settings::Settings;
+use std::marker::Model;
 
-/// How many words are pins at most.
-pub(crate) const MOST_PINS: usize = 4_096;
-
-/// Whether a key is that of a pin.
-pub(crate) fn is_pin_key(key: &str) -> bool
-    ensures { result ≡ spec.is_one_of pin_keys key.now }
-{
-    is_among(&["on", "off"], key)
+/// A pin: a feature that is to be on, or off.
+#[derive(Clone, Copy, PartialEq, Eq, Debug)]
+pub struct Pin<'a> {
+    pub name: &'a str,
+    pub on: bool,
 }
 
-/// Whether a word is a pin.
-pub(crate) fn is_pin(word: &str) -> bool
-    ensures { result ≡ is_pin word.now }
-{
-    match word.split_once('=') {
-        Some((key, _)) => is_pin_key(key),
-        None => false,
+/// The pins among settings, in their order: those with the key `on` are on, and those with the key `off` are off. Equal ones
+/// stand as often as words give them.
+#[derive(Debug, Drop)]
+pub struct Pins<'a> {
+    settings: Settings<'a>,
+}
+
+impl<'a> Model for Pins<'a> {
+    ghost use Rattle.std.specs.Prelude.{List, ℕ, Bool};
+    ghost use Rattle.spec_command.specs.Pins.{pins_in};
+
+    ghost Value = { List (List ℕ × Bool) };
+
+    ghost view = { λ p. pins_in p.settings };
+}
+
+impl<'a> Pins<'a> {
+    ghost use Rattle.std.specs.Prelude.{◌≡◌};
+    ghost use Rattle.spec_command.specs.Pins.{pins_in};
+
+    /// The pins among settings.
+    pub(crate) fn new(settings: Settings<'a>) -> Pins<'a>
+        ensures { result ≡ pins_in settings.entry }
+    {
+        Pins { settings }
+    }
+}
+
+impl<'a> Iterator for Pins<'a> {
+    ghost use Rattle.std.specs.Iterator.{YieldsFirstBy, item_count};
+
+    type Item = Pin<'a>;
+
+    ghost next_gives = { YieldsFirstBy (λ pin. (pin.name.now, pin.on)) (λ pins. pins) };
+
+    ghost remaining = { item_count (λ pins. pins) };
+
+    fn next(&mut self) -> Option<Pin<'a>> {
+        while let Some((key, name)) = self.settings.next() {
+            match key {
+                "on" => return Some(Pin { name, on: true }),
+                "off" => return Some(Pin { name, on: false }),
+                _ => {}
+            }
+        }
+        None
     }
 }

@@ -4,11 +4,11 @@ ghost use Rattle.std.specs.List.{list_all};
 ghost use Rattle.spec_command.specs.Setting.{setting_in};
 ghost use Rattle.spec_command.specs.Request as spec;
 ghost use Rattle.mrs_command.specs.Words.{is_setting};
-ghost use Rattle.mrs_command.specs.Commands.{command_of, asked_of, IsLimited};
+ghost use Rattle.mrs_command.specs.Commands.{command_of, asked_of, IsLimited, ArePinsFew};
 
 use crate::bad_word::BadWord;
 use crate::commands::{Request, Verb};
-use crate::pins::{MOST_PINS, is_pin, is_pin_key};
+use crate::pin_words::{MOST_PINS, is_pin, is_pin_key};
 use crate::settings::Settings;
 use crate::values::takes;
 
@@ -16,13 +16,15 @@ use crate::values::takes;
 ///
 /// The first word is the command, and each other word is `key=value`, split at its first `=`. Bad words are an unknown
 /// command, a word without a `=`, a key that the command does not have, a key that an earlier word has, an empty
-/// value, a `form` that is neither `full` nor `bare`, a `max` that is no number up to 2^40, and of `on`, which several
-/// words may have, a value that is no name, and all behind 4,096 of them. A missing command is place 0. Where no word is bad, a missing key is refused at the number of words.
+/// value, a `form` that is neither `full` nor `bare`, a `max` that is no number up to 2^40, and of `on` and `off`, which
+/// several words may have, a value that is no name, and all behind 4,096 of both. A missing command is place 0. Where no word is
+/// bad, a missing key is refused at the number of words, and so is a `check` that names neither document.
 pub fn read_request(words: &[String]) -> Result<Request<'_>, BadWord>
     ensures request { MatchResult result
         (λ asked. spec.request (map string_bytes words.now) ≡ Ok (asked_of asked))
         (λ bad. spec.request (map string_bytes words.now) ≡ Err bad.place) }
     ensures limited { IfOk result IsLimited }
+    ensures few { IfOk result ArePinsFew }
 {
     let [first, settings @ ..] = words else {
         return Err(BadWord { place: 0 });

@@ -1,10 +1,11 @@
 //! The settings behind a command.
-ghost use Rattle.std.specs.Prelude.{◌≡◌, map, string_bytes, option_map, IsTrue, codes};
+ghost use Rattle.std.specs.Prelude.{◌≡◌, map, string_bytes, option_map, IsTrue};
 ghost use Rattle.std.specs.List.{list_all};
-ghost use Rattle.spec_command.specs.Setting.{settings_in, value_in, values_in};
+ghost use Rattle.spec_command.specs.Setting.{settings_in, value_in};
+ghost use Rattle.spec_command.specs.Pins.{pins_in};
 ghost use Rattle.mrs_command.specs.Words.{is_setting};
 
-use crate::names::Names;
+use crate::pins::Pins;
 use std::marker::Model;
 
 /// The keys and values of words, in their order, which they borrow.
@@ -47,11 +48,11 @@ impl<'a> Settings<'a> {
         None
     }
 
-    /// The names that all settings with the key `on` give, in their order.
-    pub(crate) fn names_on(&self) -> Names<'a>
-        ensures { result ≡ values_in (codes "on") self.now }
+    /// The pins among the settings, in their order.
+    pub(crate) fn pins(&self) -> Pins<'a>
+        ensures { result ≡ pins_in self.now }
     {
-        Names::new(Settings::new(self.words))
+        Pins::new(Settings::new(self.words))
     }
 }
 

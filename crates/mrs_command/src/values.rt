@@ -2,7 +2,7 @@
 ghost use Rattle.std.specs.Prelude.{◌≡◌, ◌≤◌, ◌^◌, option_map, IfSome};
 ghost use Rattle.spec_command.specs.Commands as spec;
 
-use crate::pins::is_pin_key;
+use crate::pin_words::is_pin_key;
 use mrs_names::is_name;
 use number_text::number_below;
 

@@ -1,6 +1,11 @@
+use Rattle.std.proofs.Common.{◌≡◌, sym, subst, ◌<◌, length}
+use Rattle.std.proofs.lemmas.List.{length-map}
+use Rattle.mrs_arena.specs.Placed.{path_to, leaves_of}
 use Rattle.spec_lines.proofs.EncodedLaws.{lone_is}
 use Rattle.list_words.specs.Listers.{machine}
 use Rattle.list_words.proofs.bare.push_bare.Goals as goal
 
-pub push_lone_leaf-requires-clause-leaf : goal.push_lone_leaf-requires-clause-leaf
-push_lone_leaf-requires-clause-leaf c = (lone_is (machine c.args.lister.now).paths (machine c.args.lister.now).configuration c.args.word _ c.in-Lone.ensures).within
+pub of-requires-clause-leaf : goal.of-requires-clause-leaf
+of-requires-clause-leaf c =
+    let l = c.args.lister.now in
+    subst (λ n. c.in-Lone.leaf.0 < n) (length-map (leaves_of l.tree.now.nodes) (path_to l.names.now l.tree.now.nodes)) (lone_is (machine l).paths (machine l).configuration c.args.word _ c.in-Lone.ensures).within

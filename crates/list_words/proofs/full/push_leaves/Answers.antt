@@ -15,5 +15,5 @@ returns-in_ok-extend_from_slice-in-Several c =
     let paths = (machine c.args.lister.now).paths in
     let several = found paths (machine c.args.lister.now).configuration c.args.word in
     let told = flat_map (candidate paths) several in
-    let e = ap (λ (l : List ℕ). l ++ told) c.in_ok-extend_from_slice-in-Several.ensures.items ∙ append_assoc c.args.out.now.items _ told ∙ ap (λ (l : List ℕ). c.args.out.now.items ++ l) (sym (several_told paths c.args.word several c.in-Several.ensures)) in
+    let e = ap (λ (l : List ℕ). l ++ told) c.in_ok-extend_from_slice-in-Several.ensures.items ∙ append_assoc c.args.out.now.items _ told ∙ ap (λ (l : List ℕ). c.args.out.now.items ++ l) (sym (several_told (machine c.args.lister.now) c.args.word several c.in-Several.ensures)) in
     subst (λ (l : List ℕ). OnOk c.push_candidates.result (c.push_candidates.new.out.items ≡ l)) e c.push_candidates.ensures

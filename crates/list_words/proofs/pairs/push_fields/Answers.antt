@@ -1,19 +1,19 @@
-use Rattle.std.proofs.Common.{◌∙◌, sym, ap, subst, ◌+◌, ◌++◌, ◌<◌, ◌≤◌, length, flat_map, ℕ, List, [], All, append_assoc, append-nil}
-use Rattle.std.specs.Prelude.{slice_index_or}
+use Rattle.std.proofs.Common.{◌∙◌, sym, ap, subst, ◌+◌, ◌++◌, ◌<◌, ◌≤◌, length, flat_map, ℕ, List, All, append_assoc, append-nil}
 use Rattle.std.proofs.lemmas.List.Elements.{All-head, All-tail}
 use Rattle.insn_tree.specs.Visible.{FlatField}
+use Rattle.spec_lines.specs.Way.{way_path}
 use Rattle.list_words.specs.Listers.{machine}
+use Rattle.list_words.specs.Ways.{way_by}
 use Rattle.list_words.proofs.PairLaws.{pair_at, all-pairs}
 use Rattle.list_words.proofs.pairs.push_fields.Goals as goal
 
 pub loop-field-init : goal.loop-field-init
 loop-field-init c =
     let names = c.args.lister.now.names.now in
-    let own = c.requires.release.names_are in
     let given = c.into_iter-field-iterator.ensures.into_iter_gives in record {
-      told = ap (λ (t : List ℕ). c.args.out.now.items ++ t) (ap (flat_map (pair_at names c.args.w)) given ∙ all-pairs names c.args.w _ (slice_index_or (machine c.args.lister.now).paths c.args.leaf.0 []) (c.shown-field-items.ensures.fields names own.names_are own.held));
+      told = ap (λ (t : List ℕ). c.args.out.now.items ++ t) (ap (flat_map (pair_at names c.args.w)) given ∙ all-pairs names c.args.w _ (way_path (machine c.args.lister.now) (way_by c.args.way)) c.shown-field-items.ensures.fields);
       within = subst (All (λ (f : FlatField). f.start + f.width ≤ 32)) (sym given) c.shown-field-items.ensures.within;
-      held = subst (All (λ (f : FlatField). f.name < length names)) (sym given) (c.shown-field-items.ensures.held names own.held);
+      held = subst (All (λ (f : FlatField). f.name < length names)) (sym given) c.shown-field-items.ensures.held;
     }
 
 pub push_pair-requires-clause-within : goal.push_pair-requires-clause-within
