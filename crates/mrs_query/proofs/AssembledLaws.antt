@@ -17,19 +17,13 @@ use Rattle.spec_lines.specs.Assembly.{BadLine}
 use Rattle.spec_lines.specs.Reasons.{reason}
 use Rattle.mrs_query.specs.declared.status.Status.{Status}
 use Rattle.mrs_query.specs.declared.status.Status.TheVariants as status
-use Rattle.mrs_query.specs.declared.status.Which.TheVariants as which
+use Rattle.release_opening.specs.declared.document.Which.TheVariants as which
 use Rattle.mrs_query.specs.declared.ended.Ended.{Ended}
 use Rattle.mrs_query.specs.End.{end_of}
-use Rattle.mrs_query.specs.Runs.{HasReason, told_as}
-use Rattle.mrs_query.specs.Assembled.{IsPlainly, TellsReason, TellsAssembly}
-
--- the end of a status without a reason
-pub plainly_told : (status : Status) (ended : Ended) → IsPlainly status ended → told_as ended ≡ end_of status []
-plainly_told status ended is = ap (end_of ended.status) is.none ∙ ap (λ s. end_of s []) is.status_is
-
--- a status that is no refused line has an empty reason
-pub plainly_has : (status : Status) (ended : Ended) → HasReason status [] → IsPlainly status ended → HasReason ended.status ended.reason.items
-plainly_has status ended empty is = subst (HasReason ended.status) (sym is.none) (subst (λ s. HasReason s []) (sym is.status_is) empty)
+use Rattle.mrs_query.specs.Runs.{HasText, told_as}
+use Rattle.mrs_query.specs.Plainly.{IsPlainly}
+use Rattle.mrs_query.specs.Assembled.{TellsReason, TellsAssembly}
+use Rattle.mrs_query.proofs.Plainly.{plainly_told, plainly_has}
 
 -- where all went out, memory may have run out too
 unmemoried : (r0 r1 : Reading) (w0 w1 : Writing) (over : Over) (fault : run.QuestionFault) → Ran r0 r1 w0 w1 (Reads over) (run.Question fault) → Ran r0 r1 w0 w1 (Reads over) run.NoMemory
@@ -49,8 +43,8 @@ module _ (lister : Lister) (limit : ℕ) (r0 r1 : Reading) (w0 w1 : Writing) (en
   plain_ran status end plain is ran = subst RanAs (is ∙ sym (plainly_told status ended plain)) ran
 
   -- a line that is refused, by the number and the fault that are told of it
-  line_is : (number : ℕ) (bad : BadLine) → bad.number ≡ number → refusal lister bad ≡ run.Question (run.Line number bad.fault.at (reason (machine lister).paths bad.fault.why))
-  line_is number bad is = ap (λ n. run.Question (run.Line n bad.fault.at (reason (machine lister).paths bad.fault.why))) is
+  line_is : (number : ℕ) (bad : BadLine) → bad.number ≡ number → refusal lister bad ≡ run.Question (run.Line number bad.fault.at (reason (machine lister) bad.fault.why))
+  line_is number bad is = ap (λ n. run.Question (run.Line n bad.fault.at (reason (machine lister) bad.fault.why))) is
 
   pub assembly_ran : (how : asm.Ended) → Assembles lister limit r0 r1 w0 w1 how → TellsAssembly lister how ended → RanAs (told_as ended)
   assembly_ran how.Done h t = plain_ran status.Done h.end t h.is h.ran
@@ -66,13 +60,13 @@ module _ (lister : Lister) (limit : ℕ) (r0 r1 : Reading) (w0 w1 : Writing) (en
   assembly_ran how.Limit h t = plain_ran (status.Limit which.Input) h.end t h.is h.ran
   assembly_ran how.NoMemory h t = plain_ran status.NoMemory h.end t h.is h.ran
 
-  pub assembly_reason : (how : asm.Ended) → Assembles lister limit r0 r1 w0 w1 how → TellsAssembly lister how ended → HasReason ended.status ended.reason.items
-  assembly_reason how.Done h t = plainly_has status.Done ended refl t
-  assembly_reason (how.Line number fault) h t = elim (t h.is.0.fault h.is.1.fault_is) [
+  pub assembly_text : (how : asm.Ended) → Assembles lister limit r0 r1 w0 w1 how → TellsAssembly lister how ended → HasText ended.status ended.text.items
+  assembly_text how.Done h t = plainly_has status.Done ended refl t
+  assembly_text (how.Line number fault) h t = elim (t h.is.0.fault h.is.1.fault_is) [
     | inl none ↦ plainly_has status.NoMemory ended refl none
     | inr told ↦ told.has
   ]
-  assembly_reason how.ReadFault h t = plainly_has (status.ReadFault which.Input) ended refl t
-  assembly_reason how.WriteFault h t = plainly_has status.WriteFault ended refl t
-  assembly_reason how.Limit h t = plainly_has (status.Limit which.Input) ended refl t
-  assembly_reason how.NoMemory h t = plainly_has status.NoMemory ended refl t
+  assembly_text how.ReadFault h t = plainly_has (status.ReadFault which.Input) ended refl t
+  assembly_text how.WriteFault h t = plainly_has status.WriteFault ended refl t
+  assembly_text how.Limit h t = plainly_has (status.Limit which.Input) ended refl t
+  assembly_text how.NoMemory h t = plainly_has status.NoMemory ended refl t

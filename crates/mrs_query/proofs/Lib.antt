@@ -1,7 +1,7 @@
-pub mod Json
 pub mod TextParts
+pub mod Plainly
+pub mod Silent
+pub mod Fulfilling
 pub mod Performing
-pub mod Verdicts
-pub mod FeatureLaws
-pub mod OpeningLaws
 pub mod AssembledLaws
+pub mod LeafLaws

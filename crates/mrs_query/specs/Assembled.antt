@@ -1,5 +1,5 @@
 -- How the end of an assembly is told, with the reason where a line is refused.
-use Rattle.std.specs.Prelude.{◌≡◌, ◌⊎◌, ℕ, []}
+use Rattle.std.specs.Prelude.{◌≡◌, ◌⊎◌, ℕ, List}
 use Rattle.spec_run.specs.End as run
 use Rattle.spec_lines.specs.LineFault as spec
 use Rattle.spec_lines.specs.Reasons.{reason}
@@ -9,21 +9,20 @@ use Rattle.list_words.specs.declared.lister.Lister.{Lister}
 use Rattle.list_words.specs.declared.line_fault.LineFault.{LineFault}
 use Rattle.asm_stream.specs.declared.ended.Ended as asm
 use Rattle.asm_stream.specs.declared.ended.Ended.TheVariants as how
-use Rattle.mrs_query.specs.declared.status.Status.{Status}
+use Rattle.release_opening.specs.declared.document.Which.TheVariants as which
 use Rattle.mrs_query.specs.declared.status.Status.TheVariants as status
-use Rattle.mrs_query.specs.declared.status.Which.TheVariants as which
 use Rattle.mrs_query.specs.declared.ended.Ended.{Ended}
-use Rattle.mrs_query.specs.Runs.{HasReason, told_as}
+use Rattle.mrs_query.specs.Plainly.{IsPlainly}
+use Rattle.mrs_query.specs.Runs.{HasText, told_as}
 
--- a status that has no reason
-pub record IsPlainly (status : Status) (ended : Ended) : Type 0 where
-  pub status_is : ended.status ≡ status
-  pub none : ended.reason.items ≡ []
+-- the text of the reason of a fault of a line that this lister read
+abbrev pub IsReasonText : Lister → LineFault → List ℕ → Type 0
+IsReasonText lister fault text = (told : spec.LineFault) → IsFault lister.names.now lister.tree.now fault told → text ≡ reason (machine lister) told.why
 
 -- a line of that number is refused with the text of its reason
 pub record TellsReason (lister : Lister) (number : ℕ) (ended : Ended) (told : spec.LineFault) : Type 0 where
-  pub is : told_as ended ≡ run.Question (run.Line number told.at (reason (machine lister).paths told.why))
-  pub has : HasReason ended.status ended.reason.items
+  pub is : told_as ended ≡ run.Question (run.Line number told.at (reason (machine lister) told.why))
+  pub has : HasText ended.status ended.text.items
 
 -- so it is told, or memory ran out
 abbrev pub TellsLine : Lister → ℕ → LineFault → Ended → Type 0

@@ -1,14 +1,26 @@
 -- What became of what was asked for: the command's work decided, or nothing was opened.
-use Rattle.std.specs.Prelude.{Result, Ok, Err}
+use Rattle.std.specs.Prelude.{Result, Ok, Err, ⊤}
 use Rattle.spec_command.specs.Commands.{Request}
-use Rattle.spec_run.specs.Commands.{opened}
+use Rattle.spec_io.specs.States.{Shelving, Reading, Writing}
+use Rattle.spec_run.specs.End.{End, Question, NoFeature}
+use Rattle.spec_run.specs.Commands.{Needs, opened, names_document}
 use Rattle.spec_run.specs.Scene.{Scene, Kept}
 use Rattle.spec_run.specs.Answers.{Untouched, WorkDecides}
+use Rattle.release_opening.specs.declared.opening_error.OpeningError.{OpeningError}
+use Rattle.release_opening.specs.Opens.{Opens, IsOf}
 use Rattle.mrs_query.specs.declared.ended.Ended.{Ended}
-use Rattle.mrs_query.specs.declared.opening_error.OpeningError.{OpeningError}
 use Rattle.mrs_query.specs.Runs.{told_as}
-use Rattle.mrs_query.specs.Opened.{Opens}
+
+-- no pin is looked up in a command's work
+abbrev pub IsOfWork : End → Type 0
+IsOfWork (Question (NoFeature pin)) = ⊥
+IsOfWork end = ⊤
 
 abbrev pub Fulfils : Request → Scene → Result Ended OpeningError → Type 0
-Fulfils asked s (Ok ended) = WorkDecides s asked (told_as ended) × Kept s
-Fulfils asked s (Err error) = Opens (opened asked) s.shelf s.shelf_after (Err error) × Untouched s × Kept s
+Fulfils asked s (Ok ended) = WorkDecides s asked (told_as ended) × IsOfWork (told_as ended) × Kept s
+Fulfils asked s (Err error) = Opens (opened asked) s.shelf s.shelf_after (Err error) × IsOf {A = Needs asked} (names_document asked) (Err error) × Untouched s × Kept s
+
+-- the same of a command that does not read the stream, whatever source stands by
+abbrev pub FulfilsOnce : Request → Shelving → Shelving → Writing → Writing → Result Ended OpeningError → Type 0
+FulfilsOnce asked shelf shelf_after out out_after result =
+    (input : Reading) → Fulfils asked (record { shelf = shelf; shelf_after = shelf_after; input = input; input_after = input; out = out; out_after = out_after }) result

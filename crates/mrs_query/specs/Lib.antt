@@ -1,11 +1,9 @@
 pub mod End
+pub mod Plainly
 pub mod Once
-pub mod Codes
-pub mod Features
-pub mod Opened
+pub mod Runs
+pub mod Refused
 pub mod Fulfilled
 pub mod Texts
 pub mod Wrote
-pub mod Verdict
-pub mod Runs
 pub mod Assembled

@@ -3,24 +3,24 @@
 use crate::Status;
 use std::alloc::Global;
 
-/// How a command ends, and the text of the reason where it is that a line is refused; in all other cases that is empty.
+/// How a command ends, and a text: the reason where it is that a line is refused, the log where it is that no configuration
+/// fits; in all other cases that is empty.
 #[derive(Drop)]
 pub(crate) struct Ended {
     pub status: Status,
-    pub reason: Vec<u8>,
+    pub text: Vec<u8>,
 }
 
 impl Ended {
-    ghost use Rattle.std.specs.Prelude.{◌≡◌, []};
+    ghost use Rattle.mrs_query.specs.Plainly.{IsPlainly};
 
-    /// A status without a reason.
+    /// A status without a text.
     pub(crate) fn plainly(alloc: Global, status: Status) -> Ended
-        ensures status { result.status ≡ status }
-        ensures reason { result.reason.items ≡ [] }
+        ensures { IsPlainly status result }
     {
         Ended {
             status,
-            reason: Vec::new(alloc),
+            text: Vec::new(alloc),
         }
     }
 }

@@ -3,17 +3,13 @@
 
 mod commands;
 mod ended;
-mod features;
-mod fetching;
 mod message;
-mod opened;
-mod opened_log;
-mod opening;
-mod opening_error;
-mod opening_log;
+mod output;
 mod parts;
+mod refused;
 mod status;
 mod top;
 
-pub use status::{DocFault, QuestionFault, Status, Which};
+pub use release_opening::{DocFault, Which};
+pub use status::{QuestionFault, Status};
 pub use top::run;

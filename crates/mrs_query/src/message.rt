@@ -4,17 +4,18 @@ ghost use Rattle.spec_run.specs.End as run;
 ghost use Rattle.spec_run.specs.End.{message, why_text};
 ghost use Rattle.spec_run.specs.Scene.{TookText};
 ghost use Rattle.mrs_schema.specs.Faults as schema;
-ghost use Rattle.mrs_query.specs.End.{end_of, which_of};
+ghost use Rattle.release_opening.specs.Documents.{which_of};
 ghost use Rattle.mrs_query.specs.Runs.{told_as};
 ghost use Rattle.mrs_query.specs.Texts.{joined};
 ghost use Rattle.mrs_query.specs.Wrote.{Wrote, member_of};
 
 use crate::ended::Ended;
 use crate::parts::write_parts;
-use crate::status::{DocFault, QuestionFault, Status, Which};
+use crate::status::{QuestionFault, Status};
 use itoa::Buffer;
-use mrs_io::{Failed, Sink};
+use mrs_io::{Failed, Sink, write_whole};
 use mrs_schema::{SchemaFault, Why};
+use release_opening::{DocFault, Which};
 
 /// What a status names.
 fn which_text(which: Which) -> &'static [u8]
@@ -22,6 +23,7 @@ fn which_text(which: Which) -> &'static [u8]
 {
     match which {
         Which::Insns => b"insns",
+        Which::Features => b"features",
         Which::Log => b"log",
         Which::Input => b"input",
     }
@@ -139,6 +141,21 @@ fn write_two<E: Sink>(err: &mut E, first: &[u8], second: &[u8]) -> Result<(), Fa
     write_parts(err, &[first, second, b"\n".as_slice()])
 }
 
+/// Writes the text of a log.
+fn write_log<E: Sink>(err: &mut E, text: &[u8]) -> Result<(), Failed>
+    ensures text { Wrote (E.writing err.old) (E.writing err.new) text.now result }
+    ensures quiet { text.now ≡ [] → err.new ≡ err.old }
+{
+    write_whole(err, text)
+}
+
+/// Writes the text of a pin, by its number, that names no boolean parameter.
+fn write_no_feature<E: Sink>(err: &mut E, pin: u32) -> Result<(), Failed>
+    ensures { Wrote (E.writing err.old) (E.writing err.new) (message (run.Question (run.NoFeature pin))) result }
+{
+    write_two(err, b"feature ", Buffer::new().format(pin).as_bytes())
+}
+
 /// Writes the text of a refused line: its number, the place of a byte in it, and the reason.
 fn write_line<E: Sink>(err: &mut E, line: u64, at: u32, reason: &[u8]) -> Result<(), Failed>
     ensures { Wrote (E.writing err.old) (E.writing err.new) (message (run.Question (run.Line line at reason.now))) result }
@@ -160,7 +177,7 @@ fn write_line<E: Sink>(err: &mut E, line: u64, at: u32, reason: &[u8]) -> Result
 /// Writes the text of an end that has one.
 fn write_message<E: Sink>(err: &mut E, ended: &Ended) -> Result<(), Failed>
     ensures text { Wrote (E.writing err.old) (E.writing err.new) (message (told_as ended.now)) result }
-    ensures quiet { message (end_of ended.now.status []) ≡ [] → err.new ≡ err.old }
+    ensures quiet { message (told_as ended.now) ≡ [] → err.new ≡ err.old }
 {
     match &ended.status {
         Status::Done | Status::Ragged { rest: _ } | Status::NoMemory => Ok(()),
@@ -177,12 +194,16 @@ fn write_message<E: Sink>(err: &mut E, ended: &Ended) -> Result<(), Failed>
             which,
             fault: DocFault::Log { at },
         } => write_syntax(err, *which, *at),
+        Status::Refuted { steps: _ } => write_log(err, &ended.text),
+        Status::Question {
+            fault: QuestionFault::NoFeature { pin },
+        } => write_no_feature(err, *pin),
         Status::Question {
             fault: QuestionFault::NoLeaf,
         } => write_two(err, b"leaf", b""),
         Status::Question {
             fault: QuestionFault::Line { line, fault },
-        } => write_line(err, *line, fault.at, &ended.reason),
+        } => write_line(err, *line, fault.at, &ended.text),
         Status::ReadFault { which } => write_two(err, b"read ", which_text(*which)),
         Status::WriteFault => write_two(err, b"write out", b""),
         Status::Limit { which } => write_two(err, b"limit ", which_text(*which)),
@@ -194,7 +215,7 @@ pub(crate) fn tell<E: Sink>(err: &mut E, ended: &Ended)
     ensures text { TookText (E.writing err.old)
         (E.writing err.new) (message (told_as ended.now)) }
     ensures count { (E.writing err.old).faults ≤ (E.writing err.new).faults }
-    ensures quiet { message (end_of ended.now.status []) ≡ [] → err.new ≡ err.old }
+    ensures quiet { message (told_as ended.now) ≡ [] → err.new ≡ err.old }
 {
     let _ = write_message(err, ended);
 }

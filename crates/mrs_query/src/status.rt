@@ -4,30 +4,13 @@ ghost use Rattle.spec_run.specs.End.{exit_number};
 ghost use Rattle.mrs_query.specs.End.{end_of};
 
 use list_words::LineFault;
-use mrs_schema::SchemaFault;
-
-/// What a status names: the Instructions document, the log, or the stream.
-#[derive(Clone, Copy, Debug, PartialEq, Eq)]
-pub enum Which {
-    Insns,
-    Log,
-    Input,
-}
-
-/// Why a document is refused.
-#[derive(Drop, Debug, PartialEq, Eq)]
-pub enum DocFault {
-    /// It has no JSON reading.
-    Json,
-    /// It leaves the profile; the fault is the first of the walk over it.
-    Schema(SchemaFault),
-    /// It is no log's text; `at` is the first byte of the first line that is not as demanded.
-    Log { at: u64 },
-}
+use release_opening::{DocFault, Which};
 
 /// Why a question has no answer.
 #[derive(Clone, Copy, Debug, PartialEq, Eq)]
 pub enum QuestionFault {
+    /// The pin of that number, counted from 0, names no boolean parameter.
+    NoFeature { pin: u32 },
     /// No leaf has the label.
     NoLeaf,
     /// The line of that number, counted from 1, is refused.
@@ -45,6 +28,8 @@ pub enum Status {
     Usage { place: u64 },
     /// A document is refused.
     Document { which: Which, fault: DocFault },
+    /// No configuration fits, which a log of so many steps shows.
+    Refuted { steps: u64 },
     /// What the command asks for is not there.
     Question { fault: QuestionFault },
     /// The shelf or the source failed, or the shelf holds no such document.
@@ -60,13 +45,14 @@ pub enum Status {
 impl Status {
     /// The number with which the program ends.
     pub fn exit_number(&self) -> u8
-        ensures { (reason : List ℕ) → result ≡ exit_number (end_of self.now reason) }
+        ensures { (text : List ℕ) → result ≡ exit_number (end_of self.now text) }
     {
         match self {
             Status::Done => 0,
             Status::Ragged { rest: _ } => 1,
             Status::Usage { place: _ } => 2,
             Status::Document { which: _, fault: _ } => 3,
+            Status::Refuted { steps: _ } => 4,
             Status::Question { fault: _ } => 5,
             Status::ReadFault { which: _ } => 6,
             Status::WriteFault => 7,

@@ -1,14 +1,15 @@
 //! The top call.
-ghost use Rattle.std.specs.Prelude.{◌≡◌, map, string_bytes, []};
+ghost use Rattle.std.specs.Prelude.{◌≡◌, ℕ, List, map, string_bytes, []};
 ghost use Rattle.spec_run.specs.End.{message, IsEarly, IsUsage};
 ghost use Rattle.spec_run.specs.Answers.{Performs};
 ghost use Rattle.mrs_query.specs.End.{end_of};
-ghost use Rattle.mrs_query.specs.Runs.{HasReason, told_as, Runs};
+ghost use Rattle.mrs_query.specs.Runs.{HasText, told_as, Runs};
 
 use crate::Status;
 use crate::commands::fulfil;
 use crate::ended::Ended;
 use crate::message::tell;
+use crate::refused::refused;
 use mrs_command::read_request;
 use mrs_io::{Shelf, Sink, Source};
 use std::alloc::Global;
@@ -31,7 +32,7 @@ fn perform<V: Shelf, S: Source, K: Sink>(
       out = K.writing out.old;
       out_after = K.writing out.new;
     }) (told_as result) }
-    ensures reason { HasReason result.status result.reason.items }
+    ensures text { HasText result.status result.text.items }
     ensures early { IsEarly (end_of result.status []) → (input.new ≡ input.old) × (out.new ≡ out.old) }
     ensures misused { IsUsage (end_of result.status []) → shelf.new ≡ shelf.old }
 {
@@ -41,16 +42,16 @@ fn perform<V: Shelf, S: Source, K: Sink>(
     };
     match fulfil(alloc, asked, shelf, input, out) {
         Ok(ended) => ended,
-        Err(error) => Ended::plainly(alloc, error.status()),
+        Err(error) => refused(alloc, error),
     }
 }
 
 /// Does all that the program does: reads the words of the command line, the documents that they name from the shelf
-/// and the stream from `input`, writes lines to `out` and one line on what went wrong to `err`, and answers how the
-/// run ended. Words of Arm A64 are 32 bits wide and little-endian.
+/// and the stream from `input`, writes lines to `out` and to `err` one line on what went wrong, or a log where no
+/// configuration fits, and answers how the run ended. Words of Arm A64 are 32 bits wide and little-endian.
 ///
-/// The status has its cause in `Runs`: the first of the words, the document, the label and the stream that stops the run
-/// decides. `NoMemory` may come in place of any answer but `Usage`.
+/// The status has its cause in `Runs`: the first of the words, the documents, the pins, the label and the stream that stops
+/// the run decides. `NoMemory` may come in place of any answer but `Usage`.
 pub fn run<R: Threads + Sync, V: Shelf, S: Source, K: Sink, E: Sink>(
     rt: &R,
     alloc: Global,
@@ -72,7 +73,7 @@ pub fn run<R: Threads + Sync, V: Shelf, S: Source, K: Sink, E: Sink>(
     ensures early { IsEarly (end_of result []) → (input.new ≡ input.old) × (out.new ≡ out.old) }
     ensures misused { IsUsage (end_of result []) → shelf.new ≡ shelf.old }
     // Where there is nothing to say, `err` is not touched.
-    ensures quiet { message (end_of result []) ≡ [] → err.new ≡ err.old }
+    ensures quiet { (text : List ℕ) → HasText result text → message (end_of result text) ≡ [] → err.new ≡ err.old }
 {
     let _ = rt;
     let ended = perform(alloc, words, shelf, input, out);

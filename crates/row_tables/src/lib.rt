@@ -22,4 +22,4 @@ pub use report::{push_number, push_text};
 pub use row::Row;
 pub use stop::Stop;
 pub use target::Target;
-pub use wanted::Wanted;
+pub use wanted::{Refutes, Wanted};

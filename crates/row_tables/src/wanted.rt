@@ -1,8 +1,15 @@
 //! How a row has to end.
-use crate::bytes::{counted, hex_bytes, small_number, unquoted, word_bytes};
+use crate::bytes::{counted, hex_bytes, small_number, split_key, unquoted, word_bytes};
 use crate::piece::push_numbered;
 use crate::stop::Stop;
 use std::alloc::Global;
+
+/// How many variables and clauses a refutation has.
+#[derive(Clone, Copy)]
+pub struct Refutes {
+    pub variables: u32,
+    pub clauses: u32,
+}
 
 #[derive(Drop)]
 pub struct Wanted {
@@ -14,6 +21,10 @@ pub struct Wanted {
     pub out: Vec<u8>,
     /// What is said of what went wrong.
     pub err: Vec<u8>,
+    /// That a refutation is said in place of that, if the row says it.
+    pub refutes: Option<Refutes>,
+    /// The lines of the clauses with which the refutation begins, behind its first line.
+    pub clauses: Vec<u8>,
 }
 
 impl Wanted {
@@ -23,6 +34,8 @@ impl Wanted {
             answer: String::new(alloc),
             out: Vec::new(alloc),
             err: Vec::new(alloc),
+            refutes: None,
+            clauses: Vec::new(alloc),
         }
     }
 
@@ -40,10 +53,30 @@ impl Wanted {
             "numbered" => push_numbered_lines(alloc, &mut self.out, text)?,
             "says" => push_line(&mut self.err, text)?,
             "says-part" => self.err.extend_from_slice(text.as_bytes())?,
+            "refuted" => self.refutes = Some(read_refutes(text)?),
+            "clause" => push_clause(&mut self.clauses, text)?,
             _ => return Err(Stop::Line("no line of a row begins with this word")),
         }
         Ok(())
     }
+}
+
+/// The numbers of variables and clauses.
+fn read_refutes(text: &str) -> Result<Refutes, Stop> {
+    let (variables, clauses) = split_key(text);
+    Ok(Refutes {
+        variables: small_number(variables)?,
+        clauses: small_number(clauses)?,
+    })
+}
+
+/// Appends the line of a clause with these literals.
+fn push_clause(out: &mut Vec<u8>, literals: &str) -> Result<(), Stop> {
+    out.push(b'c')?;
+    if !literals.is_empty() {
+        out.push(b' ')?;
+    }
+    push_line(out, literals)
 }
 
 fn push_line(out: &mut Vec<u8>, text: &str) -> Result<(), Stop> {

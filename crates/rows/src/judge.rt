@@ -1,6 +1,7 @@
 //! Whether a row comes as it is wanted, and whether each failing call ends it as a failure has to.
 use crate::came::Came;
 use crate::play::{Failing, play};
+use crate::refutation::push_refutation;
 use crate::watched::Counts;
 use row_tables::{Book, Object, Row, Stop, Target, push_number, push_text};
 use std::rt::Files;
@@ -14,7 +15,8 @@ pub(crate) fn judge<R: Files + AllocGlobal + Threads + Sync>(
 ) -> Result<String, Stop> {
     let mut report = String::new(rt.alloc());
     let came = play(rt, book, row, None)?;
-    push_differences(&mut report, row, &came)?;
+    push_differences(rt, &mut report, row, &came)?;
+    let said = wanted_err(row, &came);
     for target in &row.sweeps {
         let calls = calls_on(&came, *target);
         for call in 0..calls {
@@ -23,10 +25,18 @@ pub(crate) fn judge<R: Files + AllocGlobal + Threads + Sync>(
                 call,
             };
             let broken = play(rt, book, row, Some(failing))?;
-            push_broken(&mut report, row, failing, &broken)?;
+            push_broken(&mut report, row, said, failing, &broken)?;
         }
     }
     Ok(report)
+}
+
+/// What has to be said: what the row wants, or the refutation that came where it wants one.
+fn wanted_err<'a>(row: &'a Row, came: &'a Came) -> &'a [u8] {
+    match row.wanted.refutes {
+        Some(_) => &came.err,
+        None => &row.wanted.err,
+    }
 }
 
 /// How many calls an object had, and no more than a sweep tries.
@@ -47,7 +57,12 @@ fn counts_on(came: &Came, target: Target) -> Counts {
 }
 
 /// Appends what differs in a run of which no call fails but those that the row names.
-fn push_differences(report: &mut String, row: &Row, came: &Came) -> Result<(), Stop> {
+fn push_differences<R: Files + AllocGlobal + Threads + Sync>(
+    rt: &R,
+    report: &mut String,
+    row: &Row,
+    came: &Came,
+) -> Result<(), Stop> {
     let wanted = &row.wanted;
     match wanted.status {
         Some(status) => push_number(report, "status", u64::from(status), u64::from(came.status))?,
@@ -58,7 +73,10 @@ fn push_differences(report: &mut String, row: &Row, came: &Came) -> Result<(), S
         writeln!(report, "  answer: {answer}")?;
     }
     push_text(report, "out", &wanted.out, &came.out)?;
-    push_text(report, "err", &wanted.err, &came.err)?;
+    match wanted.refutes {
+        Some(refutes) => push_refutation(rt, report, refutes, wanted, came)?,
+        None => push_text(report, "err", &wanted.err, &came.err)?,
+    }
     push_counts(report, Target::Shelf, &row.shelf, came.shelf)?;
     push_counts(report, Target::Input, &row.input, came.input)?;
     push_counts(report, Target::Out, &row.out, came.out_counts)?;
@@ -92,9 +110,15 @@ fn push_counts(
 
 /// Appends a line where a run in which a call failed did not end as it has to: at that call, with the status of the
 /// object and a prefix of the output.
-fn push_broken(report: &mut String, row: &Row, failing: Failing, came: &Came) -> Result<(), Stop> {
+fn push_broken(
+    report: &mut String,
+    row: &Row,
+    said: &[u8],
+    failing: Failing,
+    came: &Came,
+) -> Result<(), Stop> {
     let calls = counts_on(came, failing.target).calls;
-    if calls == u64::from(failing.call) + 1 && is_broken(row, failing.target, came) {
+    if calls == u64::from(failing.call) + 1 && is_broken(row, said, failing.target, came) {
         return Ok(());
     }
     let name = failing.target.name();
@@ -105,11 +129,11 @@ fn push_broken(report: &mut String, row: &Row, failing: Failing, came: &Came) ->
         "  call {call} of {name} fails: {calls} calls, status {status}"
     )?;
     push_text(report, "out", &row.wanted.out, &came.out)?;
-    push_text(report, "err", &row.wanted.err, &came.err)
+    push_text(report, "err", said, &came.err)
 }
 
 /// Whether a run has ended as one in which a call of the object failed.
-fn is_broken(row: &Row, target: Target, came: &Came) -> bool {
+fn is_broken(row: &Row, said: &[u8], target: Target, came: &Came) -> bool {
     let wanted = &row.wanted;
     let is_prefix = wanted.out.starts_with(&came.out);
     match target {
@@ -126,7 +150,7 @@ fn is_broken(row: &Row, target: Target, came: &Came) -> bool {
         Target::Err => {
             Some(u32::from(came.status)) == wanted.status
                 && came.out.as_slice() == wanted.out.as_slice()
-                && wanted.err.starts_with(&came.err)
+                && said.starts_with(&came.err)
         }
     }
 }

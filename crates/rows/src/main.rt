@@ -5,6 +5,7 @@ mod came;
 mod judge;
 mod play;
 mod player;
+mod refutation;
 mod watched;
 
 use player::Player;

@@ -44,6 +44,28 @@ pub(crate) fn play<R: Files + AllocGlobal + Threads + Sync>(
     })
 }
 
+/// What `proof` prints of a log.
+pub(crate) fn proved<R: Files + AllocGlobal + Threads + Sync>(
+    rt: &R,
+    log: &[u8],
+) -> Result<Vec<u8>, Stop> {
+    let alloc = rt.alloc();
+    let mut words = Vec::new(alloc);
+    words.push(String::from_str(alloc, "proof")?)?;
+    words.push(String::from_str(alloc, "log=refutation")?)?;
+    let mut documents = Vec::new(alloc);
+    documents.push((String::from_str(alloc, "refutation")?, log.to_vec(alloc)?))?;
+    let mut shelf = MemShelf::new(alloc, documents, Vec::new(alloc));
+    let mut input = MemSource::new(alloc, Vec::new(alloc), 1, Vec::new(alloc));
+    let sound = Object::sound(alloc);
+    let mut out = sink(alloc, &sound, Target::Out, None)?;
+    let mut err = sink(alloc, &sound, Target::Err, None)?;
+    run(
+        rt, alloc, &words, &mut shelf, &mut input, &mut out, &mut err,
+    );
+    Ok(out.taken().to_vec(alloc)?)
+}
+
 /// The calls of an object that fail.
 fn calls_of(
     alloc: Global,

@@ -1,22 +1,49 @@
 //! `leaf`: shows one leaf.
-ghost use Rattle.std.specs.Prelude.{◌≡◌, []};
+ghost use Rattle.std.specs.Prelude.{◌≡◌, ◌<◌, [], length, IfOk, MatchResult};
+ghost use Rattle.spec_command.specs.Commands.{AskLeaf};
+ghost use Rattle.spec_instructions.specs.Paths.{labelled_leaf};
+ghost use Rattle.spec_lines.specs.LeafFields.{whole_leaf};
 ghost use Rattle.spec_run.specs.End.{IsEarly};
 ghost use Rattle.spec_run.specs.Commands.{leaf_outcome};
-ghost use Rattle.spec_instructions.specs.Paths.{labelled_leaf};
-ghost use Rattle.mrs_query.specs.Once.{EndsOnce};
+ghost use Rattle.mrs_command.specs.Commands.{release_of};
 ghost use Rattle.mrs_query.specs.End.{end_of};
-ghost use Rattle.mrs_query.specs.Runs.{HasReason};
+ghost use Rattle.mrs_query.specs.Fulfilled.{FulfilsOnce, IsOfWork};
+ghost use Rattle.mrs_query.specs.Once.{EndsOnce};
+ghost use Rattle.mrs_query.specs.Runs.{HasText};
 
-use crate::opened::Opened;
+use crate::ended::Ended;
+use crate::output::put_out;
 use crate::{QuestionFault, Status};
-use mrs_io::{Sink, write_whole};
-use std::alloc::Global;
+use insn_tree::LeafId;
+use mrs_command::Release;
+use mrs_io::{Shelf, Sink};
+use release_opening::{Opened, OpeningError, open_set};
+use std::alloc::{AllocError, Global};
+
+/// Opens a set, and writes the lines of the leaf with that label.
+pub(crate) fn fulfil<V: Shelf, K: Sink>(
+    alloc: Global,
+    release: Release<'_>,
+    label: &str,
+    shelf: &mut V,
+    out: &mut K,
+) -> Result<Ended, OpeningError>
+    ensures fulfils { FulfilsOnce (AskLeaf (release_of release.entry) label.now) (V.shelving shelf.old) (V.shelving shelf.new)
+        (K.writing out.old) (K.writing out.new) result }
+    ensures text { IfOk result (λ ended. HasText ended.status ended.text.items) }
+    ensures early { MatchResult result (λ ended. IsEarly (end_of ended.status []) → out.new ≡ out.old) (λ _. out.new ≡ out.old) }
+{
+    let opened = open_set(alloc, shelf, release)?;
+    let status = show_leaf(alloc, &opened, label, out);
+    Ok(Ended::plainly(alloc, status))
+}
 
 /// Writes the lines of the leaf with that label.
-pub(crate) fn show_leaf<K: Sink>(alloc: Global, opened: &Opened, label: &str, out: &mut K) -> Status
+fn show_leaf<K: Sink>(alloc: Global, opened: &Opened, label: &str, out: &mut K) -> Status
     ensures ended { EndsOnce (K.writing out.old) (K.writing out.new)
-        (leaf_outcome opened.now.paths (labelled_leaf opened.now.paths label.now)) (end_of result []) }
-    ensures plain { HasReason result [] }
+        (leaf_outcome opened.now (labelled_leaf opened.now.paths label.now)) (end_of result []) }
+    ensures work { IsOfWork (end_of result []) }
+    ensures plain { HasText result [] }
     ensures early { IsEarly (end_of result []) → out.new ≡ out.old }
 {
     let Some(leaf) = opened.find_label(label) else {
@@ -24,12 +51,15 @@ pub(crate) fn show_leaf<K: Sink>(alloc: Global, opened: &Opened, label: &str, ou
             fault: QuestionFault::NoLeaf,
         };
     };
+    put_out(leaf_lines(alloc, opened, leaf), out)
+}
+
+/// The lines of a leaf.
+fn leaf_lines(alloc: Global, opened: &Opened, leaf: LeafId) -> Result<Vec<u8>, AllocError>
+    requires { leaf.0 < length opened.now.paths }
+    ensures { IfOk result (λ lines. lines.items ≡ whole_leaf opened.now leaf.0) }
+{
     let mut lines = Vec::new(alloc);
-    if opened.push_leaf(&mut lines, leaf).is_err() {
-        return Status::NoMemory;
-    }
-    match write_whole(out, &lines) {
-        Ok(()) => Status::Done,
-        Err(_) => Status::WriteFault,
-    }
+    opened.push_leaf(&mut lines, leaf)?;
+    Ok(lines)
 }

@@ -1,40 +1,57 @@
 //! `list`: lists the words of the stream.
-ghost use Rattle.std.specs.Prelude.{◌≡◌, ◌≤◌, ◌^◌, []};
+ghost use Rattle.std.specs.Prelude.{◌≡◌, ◌≤◌, ◌^◌, [], length, IfOk, OnErr};
+ghost use Rattle.spec_command.specs.Commands.{AskList, pin_limit};
 ghost use Rattle.spec_lines.specs.Streams.{form_by};
+ghost use Rattle.spec_run.specs.End.{IsEarly};
 ghost use Rattle.spec_run.specs.Work.{Reads};
 ghost use Rattle.spec_run.specs.Listing.{list_work};
 ghost use Rattle.spec_run.specs.Ran.{Ran};
+ghost use Rattle.mrs_command.specs.Commands.{release_of, configured_of};
 ghost use Rattle.list_stream.specs.Endings as listing;
 ghost use Rattle.mrs_query.specs.End.{end_of};
-ghost use Rattle.mrs_query.specs.Runs.{HasReason};
+ghost use Rattle.mrs_query.specs.Fulfilled.{Fulfils};
+ghost use Rattle.mrs_query.specs.Runs.{HasText};
 
-use crate::opened::Opened;
-use crate::{Status, Which};
-use list_stream::{Ended, list_stream};
-use mrs_io::{Sink, Source};
+use crate::Status;
+use crate::ended::Ended;
+use list_stream::list_stream;
+use mrs_command::{Configured, Release};
+use mrs_io::{Shelf, Sink, Source};
+use release_opening::{Opened, OpeningError, Which, open_release};
 use std::alloc::Global;
 
-/// The status of a listing that ended.
-fn listed(ended: Ended) -> Status
-    ensures end { end_of result [] ≡ listing.end_of ended }
-    ensures plain { HasReason result [] }
+/// Opens a set under a configuration, and lists the words of at most `max` bytes of the stream.
+pub(crate) fn fulfil<V: Shelf, S: Source, K: Sink>(
+    alloc: Global,
+    release: Release<'_>,
+    bare: bool,
+    max: u64,
+    configured: Configured<'_>,
+    shelf: &mut V,
+    input: &mut S,
+    out: &mut K,
+) -> Result<Ended, OpeningError>
+    requires max { max ≤ 2 ^ 40 }
+    requires few { length configured.pins ≤ pin_limit }
+    ensures fulfils { Fulfils (AskList (release_of release.entry) bare max (configured_of configured.entry)) (record {
+      shelf = V.shelving shelf.old;
+      shelf_after = V.shelving shelf.new;
+      input = S.reading input.old;
+      input_after = S.reading input.new;
+      out = K.writing out.old;
+      out_after = K.writing out.new;
+    }) result }
+    ensures text { IfOk result (λ ended. HasText ended.status ended.text.items) }
+    ensures late { IfOk result (λ ended. ¬ IsEarly (end_of ended.status [])) }
+    ensures unopened { OnErr result ((input.new ≡ input.old) × (out.new ≡ out.old)) }
 {
-    match ended {
-        Ended::Done => Status::Done,
-        Ended::Ragged { rest } => Status::Ragged { rest },
-        Ended::ReadFault => Status::ReadFault {
-            which: Which::Input,
-        },
-        Ended::WriteFault => Status::WriteFault,
-        Ended::Limit => Status::Limit {
-            which: Which::Input,
-        },
-        Ended::NoMemory => Status::NoMemory,
-    }
+    let opened = open_release(alloc, shelf, release, configured)?;
+    let status = show_words(alloc, &opened, bare, max, input, out);
+    Ok(Ended::plainly(alloc, status))
 }
 
 /// Lists the words of at most `max` bytes of the stream, in bare lines or in full ones.
-pub(crate) fn show_words<S: Source, K: Sink>(
+fn show_words<S: Source, K: Sink>(
     alloc: Global,
     opened: &Opened,
     bare: bool,
@@ -45,7 +62,28 @@ pub(crate) fn show_words<S: Source, K: Sink>(
     requires { max ≤ 2 ^ 40 }
     ensures ran { Ran (S.reading input.old) (S.reading input.new) (K.writing out.old) (K.writing out.new)
         (Reads (list_work (form_by bare) opened.now max)) (end_of result []) }
-    ensures plain { HasReason result [] }
+    ensures plain { HasText result [] }
+    ensures late { ¬ IsEarly (end_of result []) }
 {
     listed(list_stream(alloc, &opened.lister(bare), max, input, out))
+}
+
+/// The status of a listing that ended.
+fn listed(ended: list_stream::Ended) -> Status
+    ensures end { end_of result [] ≡ listing.end_of ended }
+    ensures plain { HasText result [] }
+    ensures late { ¬ IsEarly (end_of result []) }
+{
+    match ended {
+        list_stream::Ended::Done => Status::Done,
+        list_stream::Ended::Ragged { rest } => Status::Ragged { rest },
+        list_stream::Ended::ReadFault => Status::ReadFault {
+            which: Which::Input,
+        },
+        list_stream::Ended::WriteFault => Status::WriteFault,
+        list_stream::Ended::Limit => Status::Limit {
+            which: Which::Input,
+        },
+        list_stream::Ended::NoMemory => Status::NoMemory,
+    }
 }

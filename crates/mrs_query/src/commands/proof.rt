@@ -1,36 +1,60 @@
 //! `proof`: checks a log.
-ghost use Rattle.std.specs.Prelude.{◌≡◌, ◌++◌, ◌∷◌, [], OnOk, decimal};
+ghost use Rattle.std.specs.Prelude.{◌≡◌, ◌++◌, ◌∷◌, [], IfOk, OnErr, OnOk, decimal};
+ghost use Rattle.spec_command.specs.Commands.{AskProof};
 ghost use Rattle.spec_run.specs.End.{IsEarly};
-ghost use Rattle.spec_run.specs.Logs.{log_outcome};
-ghost use Rattle.mrs_query.specs.Once.{EndsOnce};
+ghost use Rattle.spec_run.specs.Logs.{log_line, log_outcome};
+ghost use Rattle.release_opening.specs.Verdict.{line_by};
 ghost use Rattle.mrs_query.specs.End.{end_of};
-ghost use Rattle.mrs_query.specs.Runs.{HasReason};
-ghost use Rattle.mrs_query.specs.Verdict.{line_by};
+ghost use Rattle.mrs_query.specs.Fulfilled.{FulfilsOnce};
+ghost use Rattle.mrs_query.specs.Once.{EndsOnce};
+ghost use Rattle.mrs_query.specs.Runs.{HasText};
 
 use crate::Status;
-use crate::opened_log::OpenedLog;
+use crate::ended::Ended;
+use crate::output::put_out;
 use feat_proof::Verdict;
 use itoa::Buffer;
-use mrs_io::{Sink, write_whole};
+use mrs_io::{Shelf, Sink};
+use release_opening::{OpenedLog, OpeningError, open_log};
 use std::alloc::{AllocError, Global};
 
+/// Opens a log, checks it, and writes the line of the verdict.
+pub(crate) fn fulfil<V: Shelf, K: Sink>(
+    alloc: Global,
+    log: &str,
+    shelf: &mut V,
+    out: &mut K,
+) -> Result<Ended, OpeningError>
+    ensures fulfils { FulfilsOnce (AskProof log.now) (V.shelving shelf.old) (V.shelving shelf.new)
+        (K.writing out.old) (K.writing out.new) result }
+    ensures text { IfOk result (λ ended. HasText ended.status ended.text.items) }
+    ensures late { IfOk result (λ ended. ¬ IsEarly (end_of ended.status [])) }
+    ensures unopened { OnErr result (out.new ≡ out.old) }
+{
+    let opened = open_log(alloc, shelf, log)?;
+    let status = check_log(alloc, &opened, out);
+    Ok(Ended::plainly(alloc, status))
+}
+
 /// Checks a log, and writes the line that says whether it refutes its clauses, or where it fails.
-pub(crate) fn check_log<K: Sink>(alloc: Global, opened: &OpenedLog, out: &mut K) -> Status
+fn check_log<K: Sink>(alloc: Global, opened: &OpenedLog, out: &mut K) -> Status
     ensures ended { EndsOnce (K.writing out.old) (K.writing out.new) (log_outcome opened.now) (end_of result []) }
-    ensures plain { HasReason result [] }
-    ensures early { IsEarly (end_of result []) → out.new ≡ out.old }
+    ensures plain { HasText result [] }
+    ensures late { ¬ IsEarly (end_of result []) }
+{
+    put_out(line_of(alloc, opened), out)
+}
+
+/// The line of a log.
+fn line_of(alloc: Global, opened: &OpenedLog) -> Result<Vec<u8>, AllocError>
+    ensures { IfOk result (λ line. line.items ≡ log_line opened.now) }
 {
     let Ok(verdict) = opened.check(alloc) else {
-        return Status::NoMemory;
+        return Err(AllocError);
     };
     let mut line = Vec::new(alloc);
-    if push_verdict(&mut line, verdict, opened.steps()).is_err() {
-        return Status::NoMemory;
-    }
-    match write_whole(out, &line) {
-        Ok(()) => Status::Done,
-        Err(_) => Status::WriteFault,
-    }
+    push_verdict(&mut line, verdict, opened.steps())?;
+    Ok(line)
 }
 
 /// Appends the line of a verdict on a log of so many steps.

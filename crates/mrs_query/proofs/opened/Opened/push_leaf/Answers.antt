@@ -1,5 +1,0 @@
-use Rattle.mrs_query.proofs.opened.Opened.push_leaf.Goals as goal
-
--- as list_words appends them
-pub returns : goal.returns
-returns c = rw (← c.self.view_is) c.push_leaf.ensures

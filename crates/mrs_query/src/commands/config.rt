@@ -1,0 +1,59 @@
+//! `config`: tells the configuration in use.
+ghost use Rattle.std.specs.Prelude.{◌≡◌, ◌≤◌, [], length, IfOk, OnErr};
+ghost use Rattle.spec_command.specs.Commands.{AskConfig, pin_limit};
+ghost use Rattle.spec_run.specs.End.{IsEarly};
+ghost use Rattle.spec_run.specs.Configuring.{configuration_lines, config_outcome};
+ghost use Rattle.mrs_query.specs.End.{end_of};
+ghost use Rattle.mrs_query.specs.Fulfilled.{FulfilsOnce};
+ghost use Rattle.mrs_query.specs.Once.{EndsOnce};
+ghost use Rattle.mrs_query.specs.Runs.{HasText};
+
+use crate::Status;
+use crate::ended::Ended;
+use crate::output::put_out;
+use mrs_command::Pins;
+use mrs_io::{Shelf, Sink};
+use release_opening::{OpenedConfiguration, OpeningError, open_configuration};
+use std::alloc::{AllocError, Global};
+
+/// Opens the configuration in use, and writes its lines.
+pub(crate) fn fulfil<V: Shelf, K: Sink>(
+    alloc: Global,
+    features: &str,
+    pins: Pins<'_>,
+    shelf: &mut V,
+    out: &mut K,
+) -> Result<Ended, OpeningError>
+    requires { length pins ≤ pin_limit }
+    ensures fulfils { FulfilsOnce (AskConfig features.now pins.entry) (V.shelving shelf.old) (V.shelving shelf.new)
+        (K.writing out.old) (K.writing out.new) result }
+    ensures text { IfOk result (λ ended. HasText ended.status ended.text.items) }
+    ensures late { IfOk result (λ ended. ¬ IsEarly (end_of ended.status [])) }
+    ensures unopened { OnErr result (out.new ≡ out.old) }
+{
+    let opened = open_configuration(alloc, shelf, features, pins)?;
+    let status = show_configuration(alloc, &opened, out);
+    Ok(Ended::plainly(alloc, status))
+}
+
+/// Writes the lines of a configuration.
+fn show_configuration<K: Sink>(
+    alloc: Global,
+    configuration: &OpenedConfiguration,
+    out: &mut K,
+) -> Status
+    ensures ended { EndsOnce (K.writing out.old) (K.writing out.new) (config_outcome configuration.now) (end_of result []) }
+    ensures plain { HasText result [] }
+    ensures late { ¬ IsEarly (end_of result []) }
+{
+    put_out(lines_of(alloc, configuration), out)
+}
+
+/// The lines of a configuration.
+fn lines_of(alloc: Global, configuration: &OpenedConfiguration) -> Result<Vec<u8>, AllocError>
+    ensures { IfOk result (λ lines. lines.items ≡ configuration_lines configuration.now) }
+{
+    let mut lines = Vec::new(alloc);
+    configuration.push_lines(&mut lines)?;
+    Ok(lines)
+}

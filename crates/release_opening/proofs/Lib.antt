@@ -1,0 +1,10 @@
+pub mod ConfigurationLaws
+pub mod JsonTexts
+pub mod Verdicts
+pub mod Then
+pub mod DocumentLaws
+pub mod PinLaws
+pub mod ChoiceLaws
+pub mod ReleaseLaws
+pub mod CountLaws
+pub mod CheckLaws

@@ -1,0 +1,9 @@
+pub mod Documents
+pub mod Opens
+pub mod Reads
+pub mod Codes
+pub mod Kept
+pub mod Counted
+pub mod Verdict
+pub mod Stages
+pub mod Pinned

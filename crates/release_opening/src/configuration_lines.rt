@@ -1,0 +1,75 @@
+//! The lines of a configuration.
+ghost use Rattle.std.specs.Prelude.{◌≡◌, ◌<◌, ◌^◌, ◌++◌, OnOk, length, codes, decimal, flat_map};
+ghost use Rattle.mrs_arena.specs.Placed.{text_of};
+ghost use Rattle.ast_eval.specs.Choices.{configuration_of};
+ghost use Rattle.spec_run.specs.Configuring.{flag_text, parameter_line, atom_lines};
+ghost use Rattle.release_opening.specs.Kept.{IsKept};
+
+use ast_eval::Config;
+use itoa::Buffer;
+use mrs_names::{NameId, Names};
+use std::alloc::AllocError;
+
+/// The end of a line, which tells a state.
+fn flag_word(on: bool) -> &'static [u8]
+    ensures { result.now ≡ flag_text on }
+{
+    if on { b" on\n" } else { b" off\n" }
+}
+
+/// Appends the end of a line, which tells a state.
+fn push_flag(out: &mut Vec<u8>, on: bool) -> Result<(), AllocError>
+    ensures { OnOk result (out.new.items ≡ out.old.items ++ flag_text on) }
+{
+    out.extend_from_slice(flag_word(on))?;
+    Ok(())
+}
+
+/// Appends the line of a parameter with its name and its state.
+fn push_parameter_line(out: &mut Vec<u8>, name: &str, on: bool) -> Result<(), AllocError>
+    ensures { OnOk result (out.new.items ≡ out.old.items ++ (name.now ++ flag_text on)) }
+{
+    out.extend_from_slice(name.as_bytes())?;
+    push_flag(out, on)
+}
+
+/// Appends the lines of the parameters, in order.
+pub(crate) fn push_parameter_lines(
+    out: &mut Vec<u8>,
+    names: &Names,
+    parameters: &[NameId],
+    config: &Config,
+) -> Result<(), AllocError>
+    requires { IsKept names.now parameters.now config.now }
+    ensures { OnOk result (out.new.items ≡ out.old.items ++ flat_map parameter_line (configuration_of (text_of names.now) config.now).parameters) }
+{
+    for name in parameters {
+        let Some(on) = config.state(*name) else {
+            unreachable!()
+        };
+        push_parameter_line(out, names.text(*name), on)?;
+    }
+    Ok(())
+}
+
+/// Appends the line of an atom with its number and its state.
+fn push_atom_line(out: &mut Vec<u8>, number: u32, on: bool) -> Result<(), AllocError>
+    ensures { OnOk result (out.new.items ≡ out.old.items ++ (codes "atom " ++ (decimal number ++ flag_text on))) }
+{
+    out.extend_from_slice(b"atom ")?;
+    out.extend_from_slice(Buffer::new().format(number).as_bytes())?;
+    push_flag(out, on)
+}
+
+/// Appends the lines of the atoms, in order.
+pub(crate) fn push_atom_lines(out: &mut Vec<u8>, config: &Config) -> Result<(), AllocError>
+    requires { length config.now.atoms < 2 ^ 32 }
+    ensures { OnOk result (out.new.items ≡ out.old.items ++ atom_lines 0 config.now.atoms) }
+{
+    let mut number = 0;
+    while let Some(on) = config.atom(number) {
+        push_atom_line(out, number, on)?;
+        number += 1;
+    }
+    Ok(())
+}
