@@ -13,8 +13,6 @@ mod named;
 mod operators;
 mod row;
 mod shared;
-#[cfg(test)]
-mod tests;
 mod val;
 mod worth;
 

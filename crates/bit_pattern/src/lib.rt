@@ -15,5 +15,3 @@ pub use pattern::Pattern;
 pub use range::Range;
 pub use slicing::slice;
 
-#[cfg(test)]
-mod tests;

@@ -24,5 +24,3 @@ pub use model::Model;
 pub use outcome::Outcome;
 pub use pin::Pin;
 
-#[cfg(test)]
-mod tests;

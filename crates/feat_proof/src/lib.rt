@@ -36,5 +36,3 @@ pub use reading::read_log;
 pub use steps::Step;
 pub use verdicts::Verdict;
 
-#[cfg(test)]
-mod tests;

@@ -25,5 +25,3 @@ mod watches;
 pub use answers::Answer;
 pub use search::solve;
 
-#[cfg(test)]
-mod tests;

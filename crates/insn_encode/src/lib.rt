@@ -10,8 +10,6 @@ mod names;
 mod path_encoding;
 mod placing;
 mod shown_fields;
-#[cfg(test)]
-mod tests;
 mod values;
 
 pub use alias_encoding::{alias_rest_of, alias_shown, encode_alias};

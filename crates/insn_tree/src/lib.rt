@@ -27,8 +27,6 @@ mod path_layout;
 mod path_names;
 mod path_table;
 mod shared;
-#[cfg(test)]
-mod tests;
 mod tree;
 
 pub use field_range::FieldRange;

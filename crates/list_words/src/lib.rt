@@ -26,8 +26,6 @@ mod path_names;
 mod reading;
 mod reasons;
 mod streams;
-#[cfg(test)]
-mod tests;
 mod token;
 mod tokens;
 mod way;

@@ -8,8 +8,6 @@ mod pin_words;
 mod pins;
 mod reading;
 mod settings;
-#[cfg(test)]
-mod tests;
 mod values;
 
 pub use bad_word::BadWord;

@@ -15,8 +15,6 @@ mod nodes;
 mod params;
 mod reader;
 mod sets;
-#[cfg(test)]
-mod tests;
 
 pub use feature_reader::read_features;
 pub use features::{Features, Param, ParamKind};
