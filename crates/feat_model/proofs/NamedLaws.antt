@@ -14,7 +14,7 @@ use Rattle.spec_features.specs.Clauses.{variables, clauses}
 use Rattle.spec_features.proofs.Renamed as renamed
 use Rattle.spec_features.proofs.ChoiceLaws.{first_is_found}
 use Rattle.mrs_arena.specs.Placed.{text_of}
-use Rattle.mrs_schema.proofs.TakenLaws.{same_texts}
+use Rattle.schema_draft.proofs.TakenLaws.{same_texts}
 use Rattle.feat_model.specs.declared.faults.ModelFault.{ModelFault}
 use Rattle.feat_model.specs.declared.faults.ModelFault.TheVariants.{UnknownFeature, NoMemory}
 use Rattle.feat_model.specs.declared.outcome.Outcome.{Outcome}

@@ -2,7 +2,7 @@
 
 ghost use Rattle.std.specs.Prelude.{◌≡◌, ◌≢◌, ◌+◌, ◌<◌, ◌≤◌, nat_eq, length, map, sum_by, All, AllPairs, IfOk, OnOk};
 ghost use Rattle.mrs_arena.specs.Expressions.{expr_at};
-ghost use Rattle.mrs_schema.specs.FeatureViews.{param_kind_of, param_of, features_of, AreFeatures};
+ghost use Rattle.features_reader.specs.FeatureViews.{param_kind_of, param_of, features_of, AreFeatures};
 ghost use Rattle.spec_features.specs.Features.{is_boolean, booleans};
 ghost use Rattle.spec_features.specs.Theory.{formulas, theory, parts};
 ghost use Rattle.expr_classes.specs.Classes.{AreBelow, AreClasses};

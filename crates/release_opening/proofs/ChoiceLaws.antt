@@ -16,9 +16,9 @@ use Rattle.spec_command.specs.Pins.{Pin}
 use Rattle.spec_refutation.specs.Derivation.{Step}
 use Rattle.mrs_names.specs.declared.name_id.NameId.{NameId}
 use Rattle.mrs_names.specs.Texts.{AreNames}
-use Rattle.mrs_schema.specs.FeatureViews.{param_of, features_of, features_in, AreFeatures}
-use Rattle.mrs_schema.specs.declared.features.Param.{Param}
-use Rattle.mrs_schema.specs.declared.features.Features.{Features}
+use Rattle.features_reader.specs.FeatureViews.{param_of, features_of, features_in, AreFeatures}
+use Rattle.features_reader.specs.declared.features.Param.{Param}
+use Rattle.features_reader.specs.declared.features.Features.{Features}
 use Rattle.ast_eval.specs.Choices.{Choices}
 use Rattle.feat_model.specs.Configures as model
 use Rattle.feat_model.specs.Named as named

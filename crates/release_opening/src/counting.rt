@@ -3,7 +3,7 @@ ghost use Rattle.std.specs.Prelude.{◌≡◌, ◌-◌, ◌≤◌, nat_eq, lengt
 ghost use Rattle.spec_features.specs.Features.{booleans};
 ghost use Rattle.spec_features.specs.Theory.{theory};
 ghost use Rattle.mrs_arena.specs.Placed.{leaves_of, aliases_of};
-ghost use Rattle.mrs_schema.specs.FeatureViews.{param_of, features_of, AreFeatures};
+ghost use Rattle.features_reader.specs.FeatureViews.{param_of, features_of, AreFeatures};
 
 use crate::counted::{FeatureCounts, SetCounts};
 use feat_model::Model;

@@ -3,7 +3,7 @@ ghost use Rattle.std.specs.Prelude.{◌≡◌, ◌≤◌, ◌<◌, List, length,
 ghost use Rattle.spec_command.specs.Commands.{pin_limit};
 ghost use Rattle.spec_command.specs.Pins as spec;
 ghost use Rattle.spec_features.specs.Features.{EachName};
-ghost use Rattle.mrs_schema.specs.FeatureViews.{features_of, features_in, AreFeatures};
+ghost use Rattle.features_reader.specs.FeatureViews.{features_of, features_in, AreFeatures};
 ghost use Rattle.spec_run.specs.Opening.{configuration_opened, configured};
 ghost use Rattle.spec_run.specs.Commands.{of_checks};
 ghost use Rattle.release_opening.specs.Opens.{Opens, IsOf};

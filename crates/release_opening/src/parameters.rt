@@ -1,7 +1,7 @@
 //! The boolean parameters of features.
 ghost use Rattle.std.specs.Prelude.{◌≡◌, map, IfOk};
 ghost use Rattle.spec_features.specs.Features.{booleans};
-ghost use Rattle.mrs_schema.specs.FeatureViews.{param_of};
+ghost use Rattle.features_reader.specs.FeatureViews.{param_of};
 
 use insn_tree::NoMemory;
 use mrs_names::NameId;

@@ -2,3 +2,4 @@ pub mod Worked
 pub mod WalkLaws
 pub mod DescendLaws
 pub mod EveryLaws
+pub mod FirstFaultLaws

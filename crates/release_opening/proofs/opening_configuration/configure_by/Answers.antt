@@ -1,6 +1,6 @@
 use Rattle.std.proofs.Common.{◌∙◌, ap, map}
 use Rattle.spec_features.specs.Features.{booleans}
-use Rattle.mrs_schema.specs.FeatureViews.{param_of}
+use Rattle.features_reader.specs.FeatureViews.{param_of}
 use Rattle.release_opening.proofs.ChoiceLaws.{is_kept}
 use Rattle.release_opening.proofs.opening_configuration.configure_by.Goals as goal
 

@@ -1,7 +1,7 @@
 use Rattle.std.proofs.Common.{◌∙◌, ap, sym, subst, map, arith}
 use Rattle.spec_features.specs.Features.{booleans}
 use Rattle.spec_features.specs.Theory.{TheoryOf}
-use Rattle.mrs_schema.specs.FeatureViews.{param_of}
+use Rattle.features_reader.specs.FeatureViews.{param_of}
 use Rattle.feat_model.specs.Inside.{IsModel}
 use Rattle.feat_model.proofs.Made.{names_few, theory_is, theory_good, found_few}
 use Rattle.feat_model.proofs.model.Model.new.Goals as goal
