@@ -1,6 +1,6 @@
 //! Features of the architecture: parameters, and constraints on them.
 
-ghost use Rattle.std.specs.Prelude.{◌≡◌, ◌==◌, ◌≤◌, length, map, IfOk};
+ghost use Rattle.std.specs.Prelude.{◌≡◌, ◌==◌, ◌≤◌, [], length, map, IfOk};
 ghost use Rattle.std.specs.List.{list_any};
 ghost use Rattle.spec_features.specs.Features.{booleans_alone, param_limit};
 ghost use Rattle.spec_names.specs.Distinct.{distinct_by};
@@ -39,11 +39,13 @@ pub struct Features {
 
 impl Features {
     /// Parameters of these names, each once in the order in which they come first, that are on or off, and no constraint.
+    /// The arena has no node and no expression.
     pub fn of_names(alloc: Global, list: &[NameId]) -> Result<Features, NoMemory>
         requires { length list.now ≤ param_limit }
         ensures names { IfOk result (λ features. features_of features ≡ booleans_alone (distinct_by ◌==◌ (map (λ name. name.0) list.now))) }
         ensures named { IfOk result (AreNamed list.now) }
         ensures sound { IfOk result AreFeatures }
+        ensures bare { IfOk result (λ features. (features.arena.nodes ≡ []) × (features.arena.exprs ≡ [])) }
     {
         let mut params = Vec::new(alloc);
         for name in list {

@@ -7,6 +7,8 @@ use Rattle.mrs_arena.specs.Placed.{text_of}
 use Rattle.mrs_arena.specs.declared.expr_id.ExprId.{ExprId}
 use Rattle.mrs_walk.specs.Here.{spot_of}
 use Rattle.mrs_walk.proofs.AnswerLaws.{Puts-exit}
+use Rattle.mrs_names.specs.Texts.{IsExtended}
+use Rattle.mrs_names.proofs.PlaceLaws.{IsExtended-refl, IsExtended-trans}
 use Rattle.mrs_walk.proofs.DepthLaws.{needed_shallower, element_shallower}
 use Rattle.expression_reader.proofs.ExprsLaws.{formed_returns, not_returns, binary_returns, call_returns, set_returns, join_returns, argument_here, argument_shallower, index_returns, index_fails, slice_returns, high_fails, low_fails, PartsRead, PartsRead-next, parts_fail, list_returns, All-numbers}
 use Rattle.expression_reader.proofs.expressions.+expressions.Goals as goal
@@ -136,3 +138,89 @@ pub read_list-returns-clause-walk : goal.read_list-returns-clause-walk
 read_list-returns-clause-walk t c =
     list_returns c.list.result c.args.key.now (spot_of c.args.here.now) (spot_of c.in_ok-list.list) c.args.draft.now c.loop-i.draft c.list.new.self c.deref.result.now c.loop-i.ids.items c.loop-i.i c.in_ok-values.values.now
     c.in_ok-list.ensures c.in_ok-values.ensures c.loop-i.invariant c.loop-i-test.false c.deref.ensures.value c.list.ensures.exprs c.list.ensures.steps
+
+-- ---- names keep their numbers
+
+pub read_not-returns-in_err-part-clause-kept : goal.read_not-returns-in_err-part-clause-kept
+read_not-returns-in_err-part-clause-kept t c = c.in_err-part.ensures.kept
+
+pub read_not-returns-clause-kept : goal.read_not-returns-clause-kept
+read_not-returns-clause-kept t c = subst (IsExtended c.args.draft.now.names) (sym c.expr.ensures.names) c.in_ok-part.ensures.kept
+
+pub read_set_expression-returns-in_err-members-clause-kept : goal.read_set_expression-returns-in_err-members-clause-kept
+read_set_expression-returns-in_err-members-clause-kept t c = c.in_err-members.ensures.kept
+
+pub read_set_expression-returns-clause-kept : goal.read_set_expression-returns-clause-kept
+read_set_expression-returns-clause-kept t c = subst (IsExtended c.args.draft.now.names) (sym c.expr.ensures.names) c.in_ok-members.ensures.kept
+
+pub read_join-returns-in_err-parts-clause-kept : goal.read_join-returns-in_err-parts-clause-kept
+read_join-returns-in_err-parts-clause-kept t c = c.in_err-parts.ensures.kept
+
+pub read_join-returns-clause-kept : goal.read_join-returns-clause-kept
+read_join-returns-clause-kept t c = subst (IsExtended c.args.draft.now.names) (sym c.expr.ensures.names) c.in_ok-parts.ensures.kept
+
+pub read_binary-returns-in_err-left-clause-kept : goal.read_binary-returns-in_err-left-clause-kept
+read_binary-returns-in_err-left-clause-kept t c = c.in_err-left.ensures.kept
+
+pub read_binary-returns-in_err-right-clause-kept : goal.read_binary-returns-in_err-right-clause-kept
+read_binary-returns-in_err-right-clause-kept t c = IsExtended-trans c.args.draft.now.names c.read_part.new.draft.names c.read_part-2.new.draft.names c.in_ok-left.ensures.kept c.in_err-right.ensures.kept
+
+pub read_binary-returns-clause-kept : goal.read_binary-returns-clause-kept
+read_binary-returns-clause-kept t c = subst (IsExtended c.args.draft.now.names) (sym c.expr.ensures.names) (IsExtended-trans c.args.draft.now.names c.read_part.new.draft.names c.read_part-2.new.draft.names c.in_ok-left.ensures.kept c.in_ok-right.ensures.kept)
+
+pub read_call-returns-in_err-arguments-clause-kept : goal.read_call-returns-in_err-arguments-clause-kept
+read_call-returns-in_err-arguments-clause-kept t c = c.in_err-arguments.ensures.kept
+
+pub read_call-returns-in_err-function-clause-kept : goal.read_call-returns-in_err-function-clause-kept
+read_call-returns-in_err-function-clause-kept t c = IsExtended-trans c.args.draft.now.names c.read_list.new.draft.names c.read_function.new.draft.names c.in_ok-arguments.ensures.kept c.in_err-function.ensures.kept
+
+pub read_call-returns-clause-kept : goal.read_call-returns-clause-kept
+read_call-returns-clause-kept t c = subst (IsExtended c.args.draft.now.names) (sym c.expr.ensures.names) (IsExtended-trans c.args.draft.now.names c.read_list.new.draft.names c.read_function.new.draft.names c.in_ok-arguments.ensures.kept c.in_ok-function.ensures.kept)
+
+pub read_index-returns-in_err-bits-clause-kept : goal.read_index-returns-in_err-bits-clause-kept
+read_index-returns-in_err-bits-clause-kept t c = c.in_err-bits.ensures.kept
+
+pub read_index-returns-in_err-list-clause-kept : goal.read_index-returns-in_err-list-clause-kept
+read_index-returns-in_err-list-clause-kept t c = c.in_ok-bits.ensures.kept
+
+pub read_index-returns-in_err-bit-clause-kept : goal.read_index-returns-in_err-bit-clause-kept
+read_index-returns-in_err-bit-clause-kept t c = IsExtended-trans c.args.draft.now.names c.read_part.new.draft.names c.read_expression.new.draft.names c.in_ok-bits.ensures.kept c.in_err-bit.ensures.kept
+
+pub read_index-returns-clause-kept : goal.read_index-returns-clause-kept
+read_index-returns-clause-kept t c = subst (IsExtended c.args.draft.now.names) (sym c.expr.ensures.names) (IsExtended-trans c.args.draft.now.names c.read_part.new.draft.names c.read_expression.new.draft.names c.in_ok-bits.ensures.kept c.in_ok-bit.ensures.kept)
+
+pub read_slice-returns-in_err-bits-clause-kept : goal.read_slice-returns-in_err-bits-clause-kept
+read_slice-returns-in_err-bits-clause-kept t c = c.in_err-bits.ensures.kept
+
+pub read_slice-returns-in_err-list-clause-kept : goal.read_slice-returns-in_err-list-clause-kept
+read_slice-returns-in_err-list-clause-kept t c = c.in_ok-bits.ensures.kept
+
+pub read_slice-returns-in_err-high-clause-kept : goal.read_slice-returns-in_err-high-clause-kept
+read_slice-returns-in_err-high-clause-kept t c = IsExtended-trans c.args.draft.now.names c.read_part.new.draft.names c.read_part-2.new.draft.names c.in_ok-bits.ensures.kept c.in_err-high.ensures.kept
+
+pub read_slice-returns-in_err-low-clause-kept : goal.read_slice-returns-in_err-low-clause-kept
+read_slice-returns-in_err-low-clause-kept t c = IsExtended-trans c.args.draft.now.names c.read_part-2.new.draft.names c.read_part-3.new.draft.names (IsExtended-trans c.args.draft.now.names c.read_part.new.draft.names c.read_part-2.new.draft.names c.in_ok-bits.ensures.kept c.in_ok-high.ensures.kept) c.in_err-low.ensures.kept
+
+pub read_slice-returns-clause-kept : goal.read_slice-returns-clause-kept
+read_slice-returns-clause-kept t c = subst (IsExtended c.args.draft.now.names) (sym c.expr.ensures.names) (IsExtended-trans c.args.draft.now.names c.read_part-2.new.draft.names c.read_part-3.new.draft.names (IsExtended-trans c.args.draft.now.names c.read_part.new.draft.names c.read_part-2.new.draft.names c.in_ok-bits.ensures.kept c.in_ok-high.ensures.kept) c.in_ok-low.ensures.kept)
+
+pub read_part-returns-in_err-part-clause-kept : goal.read_part-returns-in_err-part-clause-kept
+read_part-returns-in_err-part-clause-kept t c = IsExtended-refl c.args.draft.now.names
+
+pub read_part-returns-clause-kept : goal.read_part-returns-clause-kept
+read_part-returns-clause-kept t c = c.read_expression.ensures.kept
+
+pub read_list-returns-in_err-list-clause-kept : goal.read_list-returns-in_err-list-clause-kept
+read_list-returns-in_err-list-clause-kept t c = IsExtended-refl c.args.draft.now.names
+
+pub read_list-returns-in_err-values-clause-kept : goal.read_list-returns-in_err-values-clause-kept
+read_list-returns-in_err-values-clause-kept t c = IsExtended-refl c.args.draft.now.names
+
+pub read_list-returns-in_err-id-clause-kept : goal.read_list-returns-in_err-id-clause-kept
+read_list-returns-in_err-id-clause-kept t c = IsExtended-trans c.args.draft.now.names c.loop-i.draft.names c.read_expression.new.draft.names c.loop-i.invariant.kept c.in_err-id.ensures.kept
+
+pub read_list-returns-in_err-push-clause-kept : goal.read_list-returns-in_err-push-clause-kept
+read_list-returns-in_err-push-clause-kept t c = IsExtended-trans c.args.draft.now.names c.loop-i.draft.names c.read_expression.new.draft.names c.loop-i.invariant.kept c.in_ok-id.ensures.kept
+
+pub read_list-returns-clause-kept : goal.read_list-returns-clause-kept
+read_list-returns-clause-kept t c = subst (IsExtended c.args.draft.now.names) (sym c.list.ensures.names) c.loop-i.invariant.kept

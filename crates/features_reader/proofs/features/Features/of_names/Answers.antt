@@ -1,4 +1,4 @@
-use Rattle.std.proofs.Common.{sym, ◌∙◌, arith}
+use Rattle.std.proofs.Common.{sym, ap, ◌∙◌, arith}
 use Rattle.features_reader.proofs.ParamLaws.{AreKept-none, AreKept-held, AreKept-new, features_made}
 use Rattle.features_reader.proofs.features.Features.of_names.Goals as goal
 
@@ -15,4 +15,9 @@ loop-name-preserved c =
 pub returns : goal.returns
 returns c =
     let made = features_made (record { arena = c.close.result; params = c.loop-name.params; constraints = c.new-2.result }) c.loop-name.invariant c.loop-name-test.false c.new-2.ensures.items (omega (arith, c.requires)) in
-    record { names = made.names; named = made.named; sound = made.sound }
+    record {
+      names = made.names;
+      named = made.named;
+      sound = made.sound;
+      bare = (ap (λ a. a.nodes) c.close.ensures ∙ ap (λ b. b.nodes) c.new.ensures, ap (λ a. a.exprs) c.close.ensures ∙ ap (λ b. b.exprs) c.new.ensures);
+    }
