@@ -1,14 +1,15 @@
 -- What was put for a Features document is features of its arena.
-use Rattle.std.proofs.Common.{◌≡◌, ◌∙◌, refl, sym, ap, subst, ℕ, ◌<◌, ◌≤◌, List, [], ◌∷◌, ◌++◌, length, map, All, Ok, codes, arith}
+use Rattle.std.proofs.Common.{◌≡◌, ◌∙◌, refl, sym, ap, subst, ℕ, ◌<◌, ◌≤◌, List, [], ◌∷◌, ◌++◌, length, map, All, Ok, Err, codes, arith}
 use Rattle.std.specs.Prelude.{sum_by, flat_map}
 use Rattle.std.specs.List.{AllByRecursion}
 use Rattle.std.proofs.lemmas.List.{length-map, map-append}
 use Rattle.std.proofs.lemmas.List.Elements.{All-head, All-tail}
 use Rattle.serde_json.specs.Data.{Data}
-use Rattle.spec_walk.specs.Limits.{Counts, expression_limit}
+use Rattle.spec_walk.specs.Limits.{Counts, from_held, expression_limit}
 use Rattle.spec_walk.specs.Walk.{Walk, Done, ◌>>>◌, gives}
 use Rattle.spec_walk.specs.Spot.{Spot, root, an_object, needed}
 use Rattle.spec_walk.proofs.WalkLaws.{gives-next}
+use Rattle.spec_walk.proofs.FirstFaultLaws.{answers-gives}
 use Rattle.spec_expressions.specs.Expression.{Expr, ExprOf}
 use Rattle.spec_expressions.specs.Expression as expression
 use Rattle.spec_features.specs.Features as spec
@@ -21,13 +22,15 @@ use Rattle.mrs_arena.specs.Placed.{text_of, expr_of, AreHeldExprs}
 use Rattle.mrs_arena.specs.Expressions.{expr_at}
 use Rattle.mrs_arena.specs.declared.expr_id.ExprId.{ExprId}
 use Rattle.mrs_arena.proofs.TextLaws.{expr_of-at, held-at}
-use Rattle.mrs_walk.specs.Gives.{Ends}
+use Rattle.mrs_walk.specs.Gives.{Fails, Ends}
+use Rattle.mrs_walk.specs.declared.fault.ReadFault.{ReadFault}
+use Rattle.mrs_walk.specs.declared.fault.ReadFault.TheVariants.{Schema, NoMemory}
 use Rattle.features_reader.specs.declared.features.Param.{Param}
 use Rattle.features_reader.specs.declared.features.Features.{Features}
 use Rattle.schema_draft.specs.Drafted.{Drafted, counts}
 use Rattle.expression_reader.specs.ExprsRead.{AreRead}
 use Rattle.features_reader.specs.FeatureViews.{param_of, features_of, features_in}
-use Rattle.features_reader.specs.FeaturesRead.{param_in, numbers_of, AreHeldParams, AreParamsRead, IsDocumentRead, with_expressions, AreFeaturesOf}
+use Rattle.features_reader.specs.FeaturesRead.{param_in, numbers_of, AreHeldParams, AreParamsRead, IsDocumentRead, with_expressions, AreFeaturesOf, ReadsFeatures}
 use Rattle.expression_reader.proofs.ExprsLaws.{All-numbers}
 use Rattle.features_reader.proofs.ParamReadLaws.{params_walk, kept_params, AreParams-later, AreRead-more}
 
@@ -97,8 +100,8 @@ features_made d before names f old new here is start e no_nodes same exprs held 
     ap (λ draft. gives (features (root d)) (counts draft)) (sym start) ∙ ap (λ there. gives (features there) (counts old)) (sym is) ∙ e.walked
     ∙ ap (λ g. Ok (g, counts new)) value_is ∙ ap (λ c. Ok (features_in new.names f, c)) counted
     in
-    let walked = read ∙ ap (λ ns. Ok (features_in ns f, with_expressions ns n)) (sym same) in
-    let enough : sum_by parts (features_of f).constraints ≤ expression_limit = omega (arith, all_parts-named (text_of new.names) (features_of f).constraints, parts_are_counted before d (features_in new.names f) (with_expressions new.names n) read, few) in
+    let walked = answers-gives (features (root d)) (from_held before) ∙ read ∙ ap (λ ns. Ok (features_in ns f, with_expressions ns n)) (sym same) in
+    let enough : sum_by parts (features_of f).constraints ≤ expression_limit = omega (arith, all_parts-named (text_of new.names) (features_of f).constraints, parts_are_counted before d (features_in new.names f) (with_expressions new.names n) (answers-gives (features (root d)) (from_held before) ∙ read), few) in
     record {
       walk = walked;
       held = held_all (sym same) (record { params = held_params new.names f.params.items e.stands.sound.held; constraints = held_constraints new.names f.arena.exprs held f.constraints.items });
@@ -116,3 +119,10 @@ features_made d before names f old new here is start e no_nodes same exprs held 
 
     within_arena : {m n : ℕ} → m ≡ n → All (λ id. id.0 < m) f.constraints.items → All (λ id. id.0 < n) f.constraints.items
     within_arena same h = subst (λ (k : ℕ). All (λ (id : ExprId). id.0 < k) f.constraints.items) same h
+
+-- the fault is the first of the document
+pub fault_read : (f : ReadFault) (d : Data) (before names : List (List ℕ)) (old : Drafted) (here : Spot) → here ≡ root d → old ≡ record { names = before; nodes = []; exprs = []; parts = [] } → Fails f (gives (features here) (counts old))
+    → ReadsFeatures d before names (Err f)
+fault_read (Schema f) d before names old here is start fails =
+    answers-gives (features (root d)) (from_held before) ∙ ap (λ draft. gives (features (root d)) (counts draft)) (sym start) ∙ ap (λ there. gives (features there) (counts old)) (sym is) ∙ fails
+fault_read NoMemory d before names old here is start fails = tt

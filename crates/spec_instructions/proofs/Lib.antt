@@ -7,5 +7,6 @@ pub mod VisibleLaws
 pub mod LabelLaws
 pub mod AliasLaws
 pub mod NamedCounts
+pub mod KindCounts
 pub mod LeafCounts
 pub mod SoundPathLaws

@@ -40,7 +40,7 @@ limited : (full : Bool) (f : Fault) (next other : Counts) → next ≡ other →
 limited true f next other is = refl
 limited false f next other is = ap Ok is
 
-after-is : (c : Counts) (e : Event) → after e c ≡ unless_fault (fault_of c e) (Ok (behind c (e ∷ [])))
+pub after-is : (c : Counts) (e : Event) → after e c ≡ unless_fault (fault_of c e) (Ok (behind c (e ∷ [])))
 after-is c (Wrong f) = refl
 after-is c (OneMore ANode at) = limited (nat_le node_limit c.nodes) (too_many at) _ _ (same refl refl (omega arith) (omega arith) (omega arith))
 after-is c (OneMore ALeaf at) = limited (nat_le leaf_limit c.leaves) (too_many at) _ _ (same refl (omega arith) refl (omega arith) (omega arith))

@@ -3,3 +3,4 @@ pub mod WalkLaws
 pub mod DescendLaws
 pub mod EveryLaws
 pub mod FirstFaultLaws
+pub mod CountLaws
