@@ -5,6 +5,7 @@ use Rattle.mrs_walk.specs.Here.{spot_of}
 use Rattle.mrs_walk.proofs.AnswerLaws.{Puts-exit}
 use Rattle.expression_reader.proofs.ExprsLaws.{PartsRead, PartsRead-next}
 use Rattle.features_reader.proofs.ConstraintLaws.{constraints_fail}
+use Rattle.mrs_names.proofs.PlaceLaws.{IsExtended-refl, IsExtended-trans}
 use Rattle.features_reader.proofs.constraints.read_constraints.Goals as goal
 
 pub returns-in_err-id-clause-walk : goal.returns-in_err-id-clause-walk
@@ -17,3 +18,17 @@ loop-i-preserved c =
     let next = PartsRead-next c.loop-i.invariant _ c.loop-i-test.true c.index-values-i.is _ c.element.ensures c.read_expression.new.draft c.in_ok-id.id.0 c.in_ok-id.ensures.walk c.in_ok-id.ensures.nodes c.in_ok-id.ensures.kept in
     subst (λ (ks : List ℕ). PartsRead (spot_of c.args.list.now).at c.args.draft.now c.read_expression.new.draft ks (c.loop-i.i + 1) c.in_ok-values.values.now)
     (sym (ap (map (λ (id : ExprId). id.0)) c.in_ok-push.ensures.items ∙ map_push (λ (id : ExprId). id.0) c.loop-i.ids.items c.in_ok-id.id)) next
+
+-- ---- names keep their numbers
+
+pub returns-in_err-values-clause-kept : goal.returns-in_err-values-clause-kept
+returns-in_err-values-clause-kept c = IsExtended-refl c.args.draft.now.names
+
+pub returns-in_err-id-clause-kept : goal.returns-in_err-id-clause-kept
+returns-in_err-id-clause-kept c = IsExtended-trans c.args.draft.now.names c.loop-i.draft.names c.read_expression.new.draft.names c.loop-i.invariant.kept c.in_err-id.ensures.kept
+
+pub returns-in_err-push-clause-kept : goal.returns-in_err-push-clause-kept
+returns-in_err-push-clause-kept c = IsExtended-trans c.args.draft.now.names c.loop-i.draft.names c.read_expression.new.draft.names c.loop-i.invariant.kept c.in_ok-id.ensures.kept
+
+pub returns-clause-kept : goal.returns-clause-kept
+returns-clause-kept c = c.loop-i.invariant.kept

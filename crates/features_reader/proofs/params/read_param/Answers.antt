@@ -5,6 +5,7 @@ use Rattle.mrs_walk.proofs.AnswerLaws.{Puts-exit}
 use Rattle.schema_draft.specs.Drafted.{counts}
 use Rattle.expression_reader.proofs.ExprsLaws.{named_value}
 use Rattle.features_reader.proofs.ParamReadLaws.{free_number, kept_texts, param_fails, param_returns}
+use Rattle.mrs_names.proofs.PlaceLaws.{IsExtended-refl, IsExtended-trans}
 use Rattle.features_reader.proofs.params.read_param.Goals as goal
 
 pub returns-in_err-own-clause-walk : goal.returns-in_err-own-clause-walk
@@ -26,3 +27,23 @@ returns-clause-free c =
     free_number c.name.new.self.names params c.in_ok-name.name.0 text
     (put.stands.1 ∙ named_value (spot_of c.args.here.now) text put.value (counts c.args.draft.now) (counts c.name.new.self) put.walked)
     (ap (list_any (λ name. bytes_eq name text)) (kept_texts c.in_ok-name.ensures.kept params c.requires) ∙ c.in_ok-text.ensures.free)
+
+-- ---- names keep their numbers
+
+pub returns-in_err-kind-clause-kept : goal.returns-in_err-kind-clause-kept
+returns-in_err-kind-clause-kept c = IsExtended-refl c.args.draft.now.names
+
+pub returns-in_err-text-clause-kept : goal.returns-in_err-text-clause-kept
+returns-in_err-text-clause-kept c = IsExtended-refl c.args.draft.now.names
+
+pub returns-in_err-name-clause-kept : goal.returns-in_err-name-clause-kept
+returns-in_err-name-clause-kept c = c.in_err-name.ensures.kept
+
+pub returns-in_err-check_room-clause-kept : goal.returns-in_err-check_room-clause-kept
+returns-in_err-check_room-clause-kept c = c.in_ok-name.ensures.kept
+
+pub returns-in_err-own-clause-kept : goal.returns-in_err-own-clause-kept
+returns-in_err-own-clause-kept c = IsExtended-trans c.args.draft.now.names c.name.new.self.names c.read_constraints_of.new.draft.names c.in_ok-name.ensures.kept c.in_err-own.ensures.kept
+
+pub returns-clause-kept : goal.returns-clause-kept
+returns-clause-kept c = IsExtended-trans c.args.draft.now.names c.name.new.self.names c.read_constraints_of.new.draft.names c.in_ok-name.ensures.kept c.in_ok-own.ensures.kept

@@ -6,6 +6,7 @@ use Rattle.mrs_walk.proofs.AnswerLaws.{Puts-exit}
 use Rattle.features_reader.specs.declared.features.Param.{Param}
 use Rattle.features_reader.specs.FeaturesRead.{texts_of}
 use Rattle.features_reader.proofs.ParamReadLaws.{ParamsRead-none, ParamsRead-next, names_read, params_fail}
+use Rattle.mrs_names.proofs.PlaceLaws.{IsExtended-refl, IsExtended-trans}
 use Rattle.features_reader.proofs.params.read_params.Goals as goal
 
 pub loop-i-init : goal.loop-i-init
@@ -27,3 +28,20 @@ loop-i-preserved c =
     let room = subst (λ (ps : List Param). length ps < param_limit) at c.in_ok-param.ensures.few in
     ParamsRead-next r _ c.loop-i-test.true c.index-values-i.is _ c.element.ensures c.read_param.new.draft c.in_ok-param.param c.in_ok-param.own.items (c.in_ok-param.ensures.walk r.found same) free room
     c.in_ok-param.ensures.nodes c.in_ok-param.ensures.kept _ c.in_ok-push.ensures.items _ (c.in_ok-extend_from_slice.ensures.items ∙ ap (λ xs. c.loop-i.constraints.items ++ xs) c.deref-in-loop-i.ensures.value)
+
+-- ---- names keep their numbers
+
+pub returns-in_err-values-clause-kept : goal.returns-in_err-values-clause-kept
+returns-in_err-values-clause-kept c = IsExtended-refl c.args.draft.now.names
+
+pub returns-in_err-param-clause-kept : goal.returns-in_err-param-clause-kept
+returns-in_err-param-clause-kept c = IsExtended-trans c.args.draft.now.names c.loop-i.draft.names c.read_param.new.draft.names c.loop-i.invariant.kept c.in_err-param.ensures.kept
+
+pub returns-in_err-push-clause-kept : goal.returns-in_err-push-clause-kept
+returns-in_err-push-clause-kept c = IsExtended-trans c.args.draft.now.names c.loop-i.draft.names c.read_param.new.draft.names c.loop-i.invariant.kept c.in_ok-param.ensures.kept
+
+pub returns-in_err-extend_from_slice-clause-kept : goal.returns-in_err-extend_from_slice-clause-kept
+returns-in_err-extend_from_slice-clause-kept c = IsExtended-trans c.args.draft.now.names c.loop-i.draft.names c.read_param.new.draft.names c.loop-i.invariant.kept c.in_ok-param.ensures.kept
+
+pub returns-clause-kept : goal.returns-clause-kept
+returns-clause-kept c = c.loop-i.invariant.kept

@@ -10,6 +10,7 @@ use Rattle.instructions_reader.specs.Nodes.{whole}
 use Rattle.schema_draft.specs.Drafted.{named_at}
 use Rattle.instructions_reader.specs.Kinds.{child_kind_of}
 use Rattle.instructions_reader.proofs.NodeLaws.{ChildrenRead-none, ChildrenRead-next, ChildrenRead-fails, children_fail, children_return, child_returns, whole_returns, IsLast, last-place}
+use Rattle.mrs_names.proofs.PlaceLaws.{IsExtended-refl, IsExtended-trans}
 use Rattle.instructions_reader.proofs.nodes.+nodes.Goals as goal
 
 pub read_child-returns-in-Group-clause-walk : goal.read_child-returns-in-Group-clause-walk
@@ -59,3 +60,20 @@ read_node-read_children-requires t c =
 pub read_node-returns-clause-walk : goal.read_node-returns-clause-walk
 read_node-returns-clause-walk t c =
     whole_returns c.read_children.result c.args.draft.now c.read_own.new.draft c.read_children.new.draft _ (kind_of c.args.kind) (spot_of c.args.here.now) c.in_ok-node.node.0 c.requires c.in_ok-node.ensures.walk c.read_children.ensures.walk
+
+-- ---- names keep their numbers
+
+pub read_node-returns-in_err-node-clause-kept : goal.read_node-returns-in_err-node-clause-kept
+read_node-returns-in_err-node-clause-kept t c = c.in_err-node.ensures.kept
+
+pub read_node-returns-clause-kept : goal.read_node-returns-clause-kept
+read_node-returns-clause-kept t c = IsExtended-trans c.args.draft.now.names c.read_own.new.draft.names c.read_children.new.draft.names c.in_ok-node.ensures.kept c.read_children.ensures.kept
+
+pub read_children-returns-in_err-values-clause-kept : goal.read_children-returns-in_err-values-clause-kept
+read_children-returns-in_err-values-clause-kept t c = IsExtended-refl c.args.draft.now.names
+
+pub read_children-returns-in_err-read_child-clause-kept : goal.read_children-returns-in_err-read_child-clause-kept
+read_children-returns-in_err-read_child-clause-kept t c = IsExtended-trans c.args.draft.now.names c.loop-i.draft.names c.read_child.new.draft.names c.loop-i.invariant.kept c.in_err-read_child.ensures.kept
+
+pub read_children-returns-clause-kept : goal.read_children-returns-clause-kept
+read_children-returns-clause-kept t c = c.loop-i.invariant.kept
