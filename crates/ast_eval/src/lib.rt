@@ -13,6 +13,7 @@ mod named;
 mod operators;
 mod row;
 mod shared;
+mod state;
 mod val;
 mod worth;
 
@@ -20,5 +21,6 @@ pub use config::Config;
 pub use env::Env;
 pub use kleene::Truth;
 pub use memory::NoMemory;
+pub use state::State;
 pub use val::Val;
 pub use worth::{eval, truth};

@@ -1,4 +1,4 @@
--- What clauses have to do with the configurations that fit.
+-- What the definitions come to: of documents, of facts, and of clauses with the configurations that fit.
 use Rattle.std.specs.Prelude.{◌≡◌, ◌↔◌, ℕ, Some, None, ◌≤◌, Bool, true, List, length, ◌++◌, take, sum_by, Ok, bytes_eq}
 use Rattle.serde_json.specs.Data.{Data}
 use Rattle.spec_walk.specs.Limits.{Counts, from_held, ◌>>=◌, judged}

@@ -1,8 +1,8 @@
 use Rattle.std.proofs.Common.{◌∙◌, ap, ◌<◌, ◌==◌, length, get_or, arith}
 use Rattle.indexmap.proofs.CallerLemmas.{insert_entry-new}
 use Rattle.mrs_names.specs.declared.name_id.NameId.{NameId}
-use Rattle.ast_eval.proofs.ChoiceLaws.{no_entry_at, one_more, all_put, numbers_put}
-use Rattle.ast_eval.proofs.config.Config.new.Goals as goal
+use Rattle.ast_eval.proofs.ChoiceLaws.{no_entry_at, one_more, all_put, numbers_put, states_put}
+use Rattle.ast_eval.proofs.config.Config.of_states.Goals as goal
 
 pub loop-i-preserved : goal.loop-i-preserved
 loop-i-preserved c =
@@ -23,3 +23,8 @@ loop-i-preserved c =
 pub returns-clause-names : goal.returns-clause-names
 returns-clause-names c =
     numbers_put c.loop-i.chosen.entries c.args.names.items (all_put (λ e. e.0) c.loop-i.chosen.entries c.loop-i.i c.args.names.items (omega (arith, ap length c.deref-name-items.ensures.value)) c.loop-i.invariant.names)
+
+pub returns-clause-states : goal.returns-clause-states
+returns-clause-states c =
+    states_put c.loop-i.chosen.entries c.args.states.items
+    (all_put (λ e. e.1) c.loop-i.chosen.entries c.loop-i.i c.args.states.items (omega (arith, ap length c.deref-name-items.ensures.value, c.requires.count, c.loop-i-test.false)) c.loop-i.invariant.states)

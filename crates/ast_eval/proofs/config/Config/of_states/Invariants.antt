@@ -1,5 +1,5 @@
 use Rattle.std.proofs.Common.{◌≡◌, ◌++◌, map, drop}
-use Rattle.ast_eval.proofs.config.Config.new.Given as goal
+use Rattle.ast_eval.proofs.config.Config.of_states.Given as goal
 
 -- what was put and what is left are all names with all states
 abbrev pub invariant-loop-i : goal.invariant-loop-i
