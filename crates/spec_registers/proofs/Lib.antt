@@ -1,1 +1,3 @@
 mod Worked
+pub mod GapLaws
+pub mod ViewLaws

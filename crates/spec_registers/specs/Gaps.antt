@@ -1,6 +1,6 @@
 -- The gaps of a fieldset: the longest runs of bits that none of some ranges covers.
-use Rattle.std.specs.Prelude.{◌≡◌, ◌<◌, ◌≤◌, ◌↔◌, ◌⊎◌, ℕ, ◌+◌, ◌-◌, ◌==◌, Bool, true, false, not, ◌&&◌, ◌||◌, nat_le, nat_lt, List, length, map, filter, reverse, take_while, All, Any, AllPairs}
-use Rattle.std.specs.List.{list_any, range_with_len}
+use Rattle.std.specs.Prelude.{◌≡◌, ◌<◌, ◌≤◌, ℕ, ◌+◌, ◌-◌, ◌==◌, Bool, not, ◌&&◌, ◌||◌, nat_le, nat_lt, List, [], ◌∷◌, length, map, filter, reverse, take_while, ⊤}
+use Rattle.std.specs.List.{list_any, range_with_len, AllByRecursion}
 use Rattle.spec_instructions.specs.Encodeset.{Range}
 
 -- bit i is one of the `width` bits from bit `start` up
@@ -27,12 +27,22 @@ gaps bits ranges = map (gap_from bits ranges) (reverse (filter (begins_gap range
 
 -- ---- what this comes to
 
--- each bit that no range covers stands in a gap, and a gap covers no other bit; gaps are not empty and end within the
--- fieldset, and each lies below the one before it, with a bit between them
+-- each lies below the one before it, with a bit between them
+abbrev pub AreApart : List Range → Type 0
+AreApart [] = ⊤
+AreApart (upper ∷ rest) = AllByRecursion (λ lower. lower.start + lower.width < upper.start) rest × AreApart rest
+
+-- a range has bits, among so many
+pub record IsWithin (bits : ℕ) (r : Range) : Type 0 where
+  pub some : 1 ≤ r.width
+  pub fits : r.start + r.width ≤ bits
+
+-- a bit of the fieldset stands in a gap exactly where no range covers it. Gaps are not empty, end within the fieldset, and
+-- do not touch
 pub record AreGaps (bits : ℕ) (ranges found : List Range) : Type 0 where
   pub exact : (i : ℕ) → i < bits → is_covered found i ≡ is_gap ranges i
-  pub within : All (λ r. (1 ≤ r.width) × (r.start + r.width ≤ bits)) found
-  pub apart : AllPairs (λ upper lower. lower.start + lower.width < upper.start) found
+  pub within : AllByRecursion (IsWithin bits) found
+  pub apart : AreApart found
 
 abbrev pub GapsAreExact : Type 0
 GapsAreExact = (bits : ℕ) (ranges : List Range) → AreGaps bits ranges (gaps bits ranges)

@@ -1,21 +1,16 @@
 -- What holds of the registers of every document that is accepted.
-use Rattle.std.specs.Prelude.{◌≡◌, ◌≤◌, ◌+◌, ℕ, List, length, true, Ok}
+use Rattle.std.specs.Prelude.{◌≡◌, ◌≤◌, ℕ, List, length, true, Ok}
 use Rattle.std.specs.List.{AllByRecursion}
 use Rattle.serde_json.specs.Data.{Data}
 use Rattle.spec_walk.specs.Limits.{Counts}
-use Rattle.spec_instructions.specs.Encodeset.{Range}
 use Rattle.spec_registers.specs.Name.{is_wide_name}
 use Rattle.spec_registers.specs.Limits.{register_limit, fieldset_limit, entry_limit, width_limit}
 use Rattle.spec_registers.specs.Registers.{FieldOf, FieldsetOf, Field, Fieldset, Entry, Register, Registers, entries_of}
+use Rattle.spec_registers.specs.Gaps.{IsWithin}
 use Rattle.spec_registers.specs.Reading.{registers_read}
 
--- a range has bits, and lies within a fieldset of so many
-pub record IsSoundRange (bits : ℕ) (r : Range) : Type 0 where
-  pub some : 1 ≤ r.width
-  pub fits : r.start + r.width ≤ bits
-
 pub record HasSoundRanges {N : Type 0} (bits : ℕ) (f : FieldOf N) : Type 0 where
-  pub ranges : AllByRecursion (IsSoundRange bits) f.ranges
+  pub ranges : AllByRecursion (IsWithin bits) f.ranges
 
 -- a fieldset has 1 to 128 bits, and the ranges of its fields lie within them
 pub record IsSoundFieldset {N : Type 0} (fs : FieldsetOf N) : Type 0 where

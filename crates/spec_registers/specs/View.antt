@@ -1,5 +1,6 @@
 -- What a fieldset shows of a value: pieces, each the bits of a range of a field that is there, or of a gap.
-use Rattle.std.specs.Prelude.{◌≡◌, ◌≤◌, ◌<◌, ◌+◌, ◌-◌, ◌^◌, ℕ, Bool, true, false, List, [], ◌++◌, map, flat_map, filter, All, Any, Option, Some, None}
+use Rattle.std.specs.Prelude.{◌≡◌, ◌<◌, ◌-◌, ℕ, Bool, true, false, List, [], ◌++◌, map, flat_map, filter, Option, Some, None}
+use Rattle.std.specs.List.{list_any, AllByRecursion}
 use Rattle.spec_bits.specs.Bits.{bit_of, slice}
 use Rattle.spec_expressions.specs.Truth.{Truth, Yes, No, Open}
 use Rattle.spec_expressions.specs.Scope.{Configuration}
@@ -7,7 +8,6 @@ use Rattle.spec_expressions.specs.Value.{truth}
 use Rattle.spec_instructions.specs.Encodeset.{Range}
 use Rattle.spec_registers.specs.Registers.{FieldOf, FieldsetOf, Field, Fieldset}
 use Rattle.spec_registers.specs.Gaps.{covers, gaps}
-use Rattle.spec_registers.specs.Sound.{IsSoundFieldset}
 
 -- the bits of a value in a range: of the field of that name, or of a gap, which has none
 pub record PieceOf (N : Type 0) : Type 0 where
@@ -53,10 +53,10 @@ view fs g value = pieces fs.width value (shown g fs)
 
 -- ---- what this comes to
 
--- pieces recombine to a value of so many bits: each bit stands in a piece, and the pieces that have it agree with the value
+-- pieces recombine to a value of so many bits: each bit stands in a piece, and each piece agrees with the value in all its bits
 pub record Recombine {N : Type 0} (bits value : ℕ) (ps : List (PieceOf N)) : Type 0 where
-  pub whole : (i : ℕ) → i < bits → Any (λ p. covers p.start p.width i ≡ true) ps
-  pub agree : All (λ p. (i : ℕ) → covers p.start p.width i ≡ true → bit_of p.value (i - p.start) ≡ bit_of value i) ps
+  pub whole : (i : ℕ) → i < bits → list_any (λ p. covers p.start p.width i) ps ≡ true
+  pub agree : AllByRecursion (λ p. (i : ℕ) → covers p.start p.width i ≡ true → bit_of p.value (i - p.start) ≡ bit_of value i) ps
 
 -- so do the pieces of each fieldset, under each configuration and for each value
 abbrev pub ViewsRecombine : Type 0
