@@ -98,11 +98,14 @@ module _ (bits : ℕ) (ranges : List Range) where
 
   -- below a bit that no range covers there is one at which its gap begins
   begin_of : (i : ℕ) → is_gap ranges i ≡ true → (b : ℕ) × AreFree b i
-  begin_of zero h = (0, record {
-    from = omega arith;
-    begins = and_from (is_gap ranges 0) true h refl;
-    all = λ m low high. ap (is_gap ranges) (omega (arith, high)) ∙ h;
-  })
+  begin_of zero h = (
+    0,
+    record {
+      from = omega arith;
+      begins = and_from (is_gap ranges 0) true h refl;
+      all = λ m low high. ap (is_gap ranges) (omega (arith, high)) ∙ h;
+    },
+  )
   begin_of (suc i) h = go (begin_of i) (cases_Bool (is_gap ranges i))
     where
       at : (m : ℕ) → m ≤ suc i → (m ≤ i) ⊎ (m ≡ suc i)
@@ -129,11 +132,14 @@ module _ (bits : ℕ) (ranges : List Range) where
 
       go : (is_gap ranges i ≡ true → (b : ℕ) × AreFree b i) → (is_gap ranges i ≡ true) ⊎ (is_gap ranges i ≡ false) → (b : ℕ) × AreFree b (suc i)
       go before (inl below) = let found = before below in (found.0, longer found.0 found.1)
-      go before (inr covered) = (suc i, record {
-        from = omega arith;
-        begins = and_from (is_gap ranges (suc i)) _ h (or_right (suc i == 0) (is_covered ranges (suc i - 1)) (ap (is_covered ranges) (omega arith) ∙ covered_is (is_covered ranges i) covered));
-        all = λ m low high. ap (is_gap ranges) (omega (arith, low, high)) ∙ h;
-      })
+      go before (inr covered) = (
+        suc i,
+        record {
+          from = omega arith;
+          begins = and_from (is_gap ranges (suc i)) _ h (or_right (suc i == 0) (is_covered ranges (suc i - 1)) (ap (is_covered ranges) (omega arith) ∙ covered_is (is_covered ranges i) covered));
+          all = λ m low high. ap (is_gap ranges) (omega (arith, low, high)) ∙ h;
+        },
+      )
 
   -- ---- all gaps below a bit
 
@@ -222,8 +228,12 @@ module _ (bits : ℕ) (ranges : List Range) where
       let b = found.0 in
       let free = found.1 in
       stands_among bits b i (omega (arith, free.from, below)) free.begins
-          (covers-to b (gap_from bits ranges b).width i free.from (omega (arith, free.from, width_is b,
-              run-reaches (is_gap ranges) b (bits - b) (i - b) (omega (arith, free.from, below)) (λ m le. free.all (b + m) (omega arith) (omega (arith, le, free.from))))))
+      (covers-to b (gap_from bits ranges b).width i free.from (omega (
+        arith,
+        free.from,
+        width_is b,
+        run-reaches (is_gap ranges) b (bits - b) (i - b) (omega (arith, free.from, below)) (λ m le. free.all (b + m) (omega arith) (omega (arith, le, free.from))),
+      )))
 
 pub gaps_are_gaps : (bits : ℕ) (ranges : List Range) → AreGaps bits ranges (gaps bits ranges)
 gaps_are_gaps bits ranges = record {

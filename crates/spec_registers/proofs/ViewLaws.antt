@@ -55,10 +55,10 @@ module _ {N : Type 0} (value : ℕ) where
   pub pieces_recombine : (bits : ℕ) (fields : List (FieldOf N)) → Recombine bits value (pieces bits value fields)
   pieces_recombine bits fields = record {
     whole = λ i below.
-      list_any-append (has i) (flat_map (field_pieces value) fields) (map (piece value None) (gaps bits (ranges_of fields)))
-      ∙ ap (λ b. b || list_any (has i) (map (piece value None) (gaps bits (ranges_of fields)))) (fields_have i fields)
-      ∙ ap (λ b. is_covered (ranges_of fields) i || b) (ranges_have i None (gaps bits (ranges_of fields)) ∙ (gaps_are_gaps bits (ranges_of fields)).exact i below)
-      ∙ either (is_covered (ranges_of fields) i);
+        list_any-append (has i) (flat_map (field_pieces value) fields) (map (piece value None) (gaps bits (ranges_of fields)))
+        ∙ ap (λ b. b || list_any (has i) (map (piece value None) (gaps bits (ranges_of fields)))) (fields_have i fields)
+        ∙ ap (λ b. is_covered (ranges_of fields) i || b) (ranges_have i None (gaps bits (ranges_of fields)) ∙ (gaps_are_gaps bits (ranges_of fields)).exact i below)
+        ∙ either (is_covered (ranges_of fields) i);
     agree = both_agree (flat_map (field_pieces value) fields) _ (fields_agree fields) (all_agree None (gaps bits (ranges_of fields)));
   }
     where

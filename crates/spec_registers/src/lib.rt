@@ -5,6 +5,7 @@
 
 ghost use Rattle.spec_registers.specs.Gaps.{GapsAreExact};
 ghost use Rattle.spec_registers.specs.Reading.{FirstFaultDecides};
+ghost use Rattle.spec_registers.specs.Sound.{RegistersAreSound};
 ghost use Rattle.spec_registers.specs.View.{ViewsRecombine};
 
 /// A law on the walk over a document: what decides is the first of its events that is a fault or passes a limit.
@@ -22,4 +23,11 @@ pub fn gaps_are_exact()
 /// bit stands in a piece, and each piece agrees with the value in all its bits.
 pub fn views_recombine()
     ensures { ViewsRecombine }
+{}
+
+/// A law on the registers of an accepted document: there are no more of them, of the fieldsets of one and of accessor
+/// entries than there may be, names are within their limits, fieldsets have 1 to 128 bits, the ranges of fields lie within
+/// their fieldset, and keys have 16 digits.
+pub fn registers_are_sound()
+    ensures { RegistersAreSound }
 {}
