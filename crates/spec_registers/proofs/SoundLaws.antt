@@ -1,7 +1,6 @@
 -- The registers of an accepted document are sound.
-use Rattle.std.proofs.Common.{◌≡◌, ◌∙◌, sym, ap, refl, subst, ℕ, ◌+◌, ◌<◌, ◌≤◌, ◌^◌, List, [], ◌∷◌, ◌++◌, length, map, flat_map, find, cond, Bool, true, false, Option, Some, None, option_and_then, unwrap_or, Result, Ok, Err, codes, arith, length-append}
-use Rattle.std.specs.Prelude.{⊤, ◌&&◌, ◌==◌, nat_le, nat_lt, IfSome, bytes_eq, if◌then◌else◌}
-use Rattle.std.specs.List.{AllByRecursion}
+use Rattle.std.proofs.Common.{◌≡◌, ◌∙◌, sym, ap, refl, subst, ℕ, ◌+◌, ◌<◌, ◌≤◌, ◌^◌, List, [], ◌∷◌, ◌++◌, length, flat_map, find, cond, Bool, true, false, Option, Some, None, option_and_then, unwrap_or, Result, Ok, Err, codes, arith, length-append}
+use Rattle.std.specs.Prelude.{⊤, ◌==◌, nat_le, nat_lt, IfSome, bytes_eq, if◌then◌else◌}
 use Rattle.std.proofs.lemmas.Bool.{ltb-true, leb-true, and_parts, eqb-true}
 use Rattle.serde_json.specs.Data.{Items, no_items, item, Members, no_members, member}
 use Rattle.std.proofs.lemmas.Slice.Eq.{bytes_eq-Decides}
@@ -21,13 +20,12 @@ use Rattle.spec_registers.specs.Name.{is_wide_name}
 use Rattle.spec_registers.specs.Limits.{register_limit, fieldset_limit, entry_limit, width_limit}
 use Rattle.spec_registers.specs.Kind as kind_of
 use Rattle.spec_registers.specs.Kind.{FieldKind, ConditionalField, OtherField, field_named, AccessorKind, SystemAccessor, OtherAccessor, accessor_named, ElementKind, RegisterArray, RegisterBlock, element_named}
-use Rattle.spec_registers.specs.Registers.{Direction, Field, Fieldset, Entry, Register, Registers, together, entries_of}
+use Rattle.spec_registers.specs.Registers.{Direction, Field, Fieldset, Entry, Registers, together, entries_of}
 use Rattle.spec_registers.specs.Gaps.{IsWithin}
 use Rattle.spec_registers.specs.Fields.{wide_name, condition, is_range, range, rangeset, plain_field, candidate_name, candidates, candidate, field_of, field, width, fieldset}
 use Rattle.spec_registers.specs.Key.{Part, Op0, Op1, CRn, CRm, Op2, parts, part_text, part_width, part_named, Given, given_by, given, each_member, part_given, joined, encodings}
-use Rattle.spec_registers.specs.Accessors.{Accessor, Entries, Passed, accessor_entries, entries_in, Shared, entry, directed, direction_of, accessor_of, accessor}
+use Rattle.spec_registers.specs.Accessors.{Accessor, accessor_entries, entries_in, Shared, entry, directed, direction_of, accessor_of, accessor}
 use Rattle.spec_registers.specs.Walk.{listed, register, element_of, element, registers}
-use Rattle.spec_registers.specs.Reading.{registers_read}
 use Rattle.spec_registers.specs.Sound.{HasSoundRanges, IsSoundFieldset, HasFieldNames, IsSoundEntry, IsSoundRegister, AreSound, RegistersAreSound}
 
 -- ---- lists

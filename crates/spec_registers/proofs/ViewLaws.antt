@@ -1,14 +1,13 @@
 -- The pieces of a fieldset recombine to the value.
-use Rattle.std.proofs.Common.{◌≡◌, ◌∙◌, sym, ap, refl, ℕ, ◌+◌, ◌-◌, ◌<◌, ◌≤◌, List, [], ◌∷◌, ◌++◌, map, flat_map, Bool, true, false, not, arith, ◌⊎◌, inl, inr, Option, Some, None}
-use Rattle.std.specs.Prelude.{⊤, ◌||◌}
+use Rattle.std.proofs.Common.{◌≡◌, ◌∙◌, sym, ap, refl, ℕ, ◌-◌, List, [], ◌∷◌, ◌++◌, map, flat_map, Bool, true, false, not, arith, Option, Some, None}
+use Rattle.std.specs.Prelude.{◌||◌}
 use Rattle.std.specs.List.{list_any, AllByRecursion}
-use Rattle.std.proofs.lemmas.Bool.{cases_Bool, or_left, or_right, not_from_false}
 use Rattle.std.proofs.lemmas.List.Folds.{list_any-append}
-use Rattle.spec_bits.specs.Bits.{bit_of, slice}
+use Rattle.spec_bits.specs.Bits.{bit_of}
 use Rattle.spec_bits.proofs.BitLaws.{bit_of-slice}
 use Rattle.spec_instructions.specs.Encodeset.{Range}
 use Rattle.spec_registers.specs.Registers.{FieldOf}
-use Rattle.spec_registers.specs.Gaps.{covers, is_covered, is_gap, gaps, AreGaps}
+use Rattle.spec_registers.specs.Gaps.{covers, is_covered, gaps}
 use Rattle.spec_registers.specs.View.{PieceOf, piece, field_pieces, ranges_of, pieces, Recombine}
 use Rattle.spec_registers.proofs.GapLaws.{covers-from, gaps_are_gaps}
 
@@ -55,11 +54,11 @@ module _ {N : Type 0} (value : ℕ) where
   pub pieces_recombine : (bits : ℕ) (fields : List (FieldOf N)) → Recombine bits value (pieces bits value fields)
   pieces_recombine bits fields = record {
     whole = λ i below.
-        list_any-append (has i) (flat_map (field_pieces value) fields) (map (piece value None) (gaps bits (ranges_of fields)))
-        ∙ ap (λ b. b || list_any (has i) (map (piece value None) (gaps bits (ranges_of fields)))) (fields_have i fields)
-        ∙ ap (λ b. is_covered (ranges_of fields) i || b) (ranges_have i None (gaps bits (ranges_of fields)) ∙ (gaps_are_gaps bits (ranges_of fields)).exact i below)
+        list_any-append (has i) (flat_map (field_pieces value) fields) (map (piece value None) (gaps bits (is_covered (ranges_of fields))))
+        ∙ ap (λ b. b || list_any (has i) (map (piece value None) (gaps bits (is_covered (ranges_of fields))))) (fields_have i fields)
+        ∙ ap (λ b. is_covered (ranges_of fields) i || b) (ranges_have i None (gaps bits (is_covered (ranges_of fields))) ∙ (gaps_are_gaps bits (is_covered (ranges_of fields))).exact i below)
         ∙ either (is_covered (ranges_of fields) i);
-    agree = both_agree (flat_map (field_pieces value) fields) _ (fields_agree fields) (all_agree None (gaps bits (ranges_of fields)));
+    agree = both_agree (flat_map (field_pieces value) fields) _ (fields_agree fields) (all_agree None (gaps bits (is_covered (ranges_of fields))));
   }
     where
       either : (b : Bool) → (b || not b) ≡ true

@@ -1,5 +1,5 @@
 -- An accessor as a walk: the entries that it gives, or that it is passed over.
-use Rattle.std.specs.Prelude.{ℕ, ◌+◌, List, [], ◌∷◌, length, flat_map, count_by, Bool, true, false, nat_lt, Option, Some, None, unwrap_or, codes, bytes_eq, if◌then◌else◌}
+use Rattle.std.specs.Prelude.{ℕ, ◌+◌, List, [], length, flat_map, Bool, true, false, nat_lt, Option, Some, None, unwrap_or, codes, bytes_eq, if◌then◌else◌}
 use Rattle.spec_walk.specs.Event.{TooMany}
 use Rattle.spec_walk.specs.Walk.{Walk, Done, ◌>>>◌}
 use Rattle.spec_walk.specs.Spot.{Spot, unless, an_object, elements, text, needed, optional, kind, each}

@@ -1,6 +1,6 @@
 -- Which accessors are passed over for a computed part of their key. This is seen by looking ahead, before anything behind
 -- the accessor's name is read: what has not the shape that is looked for is no reason.
-use Rattle.std.specs.Prelude.{ℕ, Bool, true, false, ◌||◌, List, Option, Some, None, option_and_then, codes}
+use Rattle.std.specs.Prelude.{Bool, true, false, ◌||◌, Option, Some, None, option_and_then, codes}
 use Rattle.std.specs.List.{list_any}
 use Rattle.serde_json.specs.Data.{Data, Items, no_items, item}
 use Rattle.serde_json.specs.Find.{get, as_array, as_str}

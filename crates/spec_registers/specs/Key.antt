@@ -9,7 +9,7 @@ use Rattle.spec_walk.specs.Event.{Missing, WrongShape}
 use Rattle.spec_walk.specs.Walk.{Walk, Done, ◌>>>◌}
 use Rattle.spec_walk.specs.Spot.{Spot, spot, needs, kind}
 use Rattle.spec_instructions.specs.Encodeset.{value}
-use Rattle.spec_registers.specs.Kind.{ValueKind, value_named}
+use Rattle.spec_registers.specs.Kind.{value_named}
 
 -- ---- the parts of a key, the highest first
 

@@ -1,5 +1,5 @@
 -- Registers of the architecture. A name is of some type; in a document it is its text.
-use Rattle.std.specs.Prelude.{ℕ, List, [], ◌++◌, map, flat_map, sum_by, Option}
+use Rattle.std.specs.Prelude.{ℕ, List, flat_map, sum_by, Option}
 use Rattle.spec_bits.specs.Pattern.{Digit}
 use Rattle.spec_instructions.specs.Encodeset.{Range}
 use Rattle.spec_expressions.specs.Expression.{ExprOf}

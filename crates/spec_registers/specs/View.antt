@@ -6,8 +6,8 @@ use Rattle.spec_expressions.specs.Truth.{Truth, Yes, No, Open}
 use Rattle.spec_expressions.specs.Scope.{Configuration}
 use Rattle.spec_expressions.specs.Value.{truth}
 use Rattle.spec_instructions.specs.Encodeset.{Range}
-use Rattle.spec_registers.specs.Registers.{FieldOf, FieldsetOf, Field, Fieldset}
-use Rattle.spec_registers.specs.Gaps.{covers, gaps}
+use Rattle.spec_registers.specs.Registers.{FieldOf, Field, Fieldset}
+use Rattle.spec_registers.specs.Gaps.{covers, is_covered, gaps}
 
 -- the bits of a value in a range: of the field of that name, or of a gap, which has none
 pub record PieceOf (N : Type 0) : Type 0 where
@@ -46,7 +46,7 @@ ranges_of fields = flat_map (λ f. f.ranges) fields
 
 -- of these fields in order, range by range, and then of the gaps, the highest first
 abbrev pub pieces : {N : Type 0} → ℕ → ℕ → List (FieldOf N) → List (PieceOf N)
-pieces bits value fields = flat_map (field_pieces value) fields ++ map (piece value None) (gaps bits (ranges_of fields))
+pieces bits value fields = flat_map (field_pieces value) fields ++ map (piece value None) (gaps bits (is_covered (ranges_of fields)))
 
 abbrev pub view : Fieldset → Configuration → ℕ → List Piece
 view fs g value = pieces fs.width value (shown g fs)

@@ -13,7 +13,7 @@ pub fn first_fault_decides()
     ensures { FirstFaultDecides }
 {}
 
-/// A law on gaps: a bit of a fieldset stands in one exactly where no range covers it. They are not empty, end within the
+/// A law on gaps: a bit of a fieldset stands in one exactly where it is not covered. They are not empty, end within the
 /// fieldset, and do not touch, the highest coming first.
 pub fn gaps_are_exact()
     ensures { GapsAreExact }
