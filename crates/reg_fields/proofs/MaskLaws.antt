@@ -1,10 +1,10 @@
 -- Laws of sets of bits, bit by bit.
-use Rattle.std.proofs.Common.{◌≡◌, ◌∙◌, sym, ap, refl, ℕ, zero, suc, ◌+◌, ◌-◌, ◌*◌, ◌/◌, ◌%◌, ◌^◌, ◌<◌, ◌≤◌, max, bit_or, bit_and, Bool, true, false, ◌&&◌, ◌||◌, ◌==◌, arith, add-zero, ◌⊎◌, inl, inr}
+use Rattle.std.proofs.Common.{◌≡◌, ◌∙◌, sym, ap, refl, ℕ, zero, suc, ◌+◌, ◌-◌, ◌*◌, ◌/◌, ◌%◌, ◌^◌, ◌<◌, ◌≤◌, max, bit_or, bit_and, List, [], ◌∷◌, ◌++◌, Bool, true, false, ◌&&◌, ◌||◌, ◌==◌, arith, add-zero, ◌⊎◌, inl, inr}
 use Rattle.std.proofs.lemmas.Bool.{cases_lt, and_from, and_left, and_right, le-leb, lt-leb, lt-ltb, le-ltb}
 use Rattle.std.proofs.lemmas.Nat.{pow_pos, shl_whole}
 use Rattle.std.proofs.lemmas.Nat.Bits.{bit_at-lt, bit_at-zero, bit_at_above, bit_at_cat_high, bit_at_cat_low, bit_at_or, bit_at_ones, ones_shr, shr_and_one}
 use Rattle.spec_bits.specs.Bits.{bit_of}
-use Rattle.spec_registers.specs.Gaps.{covers}
+use Rattle.spec_registers.specs.Gaps.{covers, is_covered}
 use Rattle.reg_fields.specs.Masks.{has_bit, IsSet}
 
 -- ---- where a bit stands to a range
@@ -76,3 +76,12 @@ or-test a b i = ap (λ x. x == 1) (bit_at_or a b i) ∙ either (bit_of a i) (bit
 
 pub bit-test : (set i : ℕ) → (bit_and (set / 2 ^ i) 1 == 1) ≡ has_bit set i
 bit-test set i = ap (λ b. b == 1) (shr_and_one set i)
+
+-- ---- sets of the bits of ranges
+
+or_false : (b : Bool) → (b || false) ≡ b
+or_false true = refl
+or_false false = refl
+
+pub one-range : (start width : ℕ) → start + width ≤ 128 → IsSet ((2 ^ 128 - 1) / 2 ^ (128 - width) * 2 ^ start % 2 ^ 128) (is_covered (record { start = start; width = width } ∷ []))
+one-range start width within i below = range-set start width within i below ∙ sym (or_false (covers start width i))

@@ -1,7 +1,8 @@
 //! Sets of bits below bit 128, as numbers.
 
-ghost use Rattle.std.specs.Prelude.{◌≡◌, ◌<◌, ◌||◌};
-ghost use Rattle.spec_registers.specs.Gaps.{covers};
+ghost use Rattle.std.specs.Prelude.{◌≡◌, ◌<◌, ◌||◌, ℕ, [], ◌∷◌};
+ghost use Rattle.spec_registers.specs.Gaps.{is_covered};
+ghost use Rattle.register_document.specs.Views.{range_of};
 ghost use Rattle.reg_fields.specs.Masks.{has_bit, IsSet};
 
 use bit_pattern::Range;
@@ -16,7 +17,7 @@ pub(crate) fn has_bit(set: u128, bit: u8) -> bool
 
 /// The bits of a range.
 pub(crate) fn range_bits(range: Range) -> u128
-    ensures { IsSet result (covers range.start range.width) }
+    ensures { IsSet result (is_covered (range_of range ∷ [])) }
 {
     (u128::MAX >> (128 - range.width)) << range.start
 }

@@ -1,6 +1,6 @@
 //! The pieces of the fields of a fieldset.
 
-use crate::piece::{Piece, piece};
+use crate::piece::{Piece, cut};
 use crate::shown::is_shown;
 use ast_eval::Config;
 use bit_pattern::Range;
@@ -95,6 +95,6 @@ impl<'a> Iterator for FieldPieces<'a> {
         }
         let range = self.ranges[self.range_at];
         self.range_at += 1;
-        Some(piece(Some(self.name), range, self.value))
+        Some(cut(Some(self.name), range, self.value))
     }
 }

@@ -6,7 +6,7 @@ ghost use Rattle.register_document.specs.Views.{range_of};
 ghost use Rattle.reg_fields.specs.Masks.{has_bit};
 
 use crate::bits::has_bit;
-use crate::piece::{Piece, piece};
+use crate::piece::{Piece, cut};
 use bit_pattern::Range;
 use std::marker::Model;
 
@@ -93,7 +93,7 @@ impl Iterator for GapPieces {
             self.below -= 1;
             if begins_gap(self.covered, self.below) {
                 let gap = gap_from(self.covered, self.width, self.below);
-                return Some(piece(None, gap, self.value));
+                return Some(cut(None, gap, self.value));
             }
         }
         None

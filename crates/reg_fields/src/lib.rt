@@ -4,14 +4,18 @@
 mod bits;
 mod covered;
 mod field_pieces;
+mod fieldset;
 mod gap;
 mod memory;
+mod name_order;
 mod piece;
 mod reg_id;
+mod registers;
 mod shown;
 mod view;
 
 pub use memory::NoMemory;
 pub use piece::Piece;
 pub use reg_id::RegId;
+pub use registers::Registers;
 pub use view::FieldView;

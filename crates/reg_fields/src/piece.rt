@@ -18,7 +18,7 @@ pub struct Piece {
 }
 
 /// The piece of a value in a range.
-pub(crate) fn piece(name: Option<NameId>, range: Range, value: u128) -> Piece
+pub(crate) fn cut(name: Option<NameId>, range: Range, value: u128) -> Piece
     ensures { piece_of result ≡ piece value (option_map (λ id. id.0) name) (range_of range) }
 {
     Piece {

@@ -32,7 +32,7 @@ impl<'a> FieldView<'a> {
     ghost use Rattle.std.specs.Prelude.{◌≡◌, ◌++◌};
 
     pub(crate) fn new(fields: FieldPieces<'a>, gaps: GapPieces) -> FieldView<'a>
-        ensures { result ≡ fields ++ gaps }
+        ensures { result ≡ fields.entry ++ gaps }
     {
         FieldView { fields, gaps }
     }
