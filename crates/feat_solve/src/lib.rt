@@ -27,4 +27,3 @@ mod watches;
 pub use answers::Answer;
 pub use feat_proof::NoMemory;
 pub use solving::solve;
-
