@@ -1,16 +1,16 @@
 -- How an object is read by its shape, a line for each.
-use Rattle.std.proofs.Common.{◌≡◌, ◌∙◌, ap, refl, ℕ, Bool, true, false, cond, List, [], ◌∷◌, ◌++◌, length, codes}
+use Rattle.std.proofs.Common.{◌≡◌, ◌∙◌, ap, refl, ℕ, Bool, List, [], ◌∷◌, ◌++◌, length, codes}
 use Rattle.serde_json.specs.Data.{Items, no_items, item}
 use Rattle.spec_walk.specs.Pointer.{element}
 use Rattle.spec_walk.specs.Event.{WrongShape}
 use Rattle.spec_walk.specs.Walk.{Walk, Done, ◌>>>◌}
-use Rattle.spec_walk.specs.Spot.{Spot, spot, unless, an_object, needed, elements, each}
+use Rattle.spec_walk.specs.Spot.{Spot, spot, unless, needed, elements, each}
 use Rattle.spec_walk.specs.Descend.{inside_of, at_spot}
 use Rattle.spec_walk.proofs.DescendLaws.{then-same}
 use Rattle.spec_expressions.specs.Expression.{Expr, Slice}
 use Rattle.spec_expressions.specs.Shape.{Shape, Plain, AName, ANot, ABinary, ACall, ASet, AJoin, AnIndex, ASlice, shape_of}
 use Rattle.spec_expressions.specs.Reading.{Its, counted, sole, argument, formed, reader, expression}
-use Rattle.spec_expressions.specs.Laws.{HasShape, part, parts_by, argument_by, ShapesAreRead}
+use Rattle.spec_expressions.specs.Laws.{HasShape, part, argument_by, ShapesAreRead}
 use Rattle.spec_expressions.proofs.FormLaws.{expression-formed, member-formed}
 
 -- whether it is an object decides

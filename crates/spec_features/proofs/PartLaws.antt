@@ -1,16 +1,12 @@
 -- The parts of constraints that are read are no more than the expressions that are counted while they are read.
-use Rattle.std.proofs.Common.{◌≡◌, ◌∙◌, sym, ap, refl, ℕ, ◌+◌, ◌≤◌, Bool, true, false, cond, nat_le, List, [], ◌∷◌, ◌++◌, length, map, Option, Some, None, unwrap_or, Result, Ok, Err, Ordering, Less, Equal, Greater, codes, arith}
-use Rattle.std.specs.Prelude.{⊤, ◌&&◌, IfSome, option_map, option_and_then, sum_by, flat_map, nat_lt, bytes_eq}
-use Rattle.std.specs.List.{list_any}
+use Rattle.std.proofs.Common.{◌≡◌, ◌∙◌, sym, ap, refl, ℕ, ◌+◌, ◌≤◌, Bool, true, false, cond, List, [], ◌∷◌, length, map, Option, Some, None, unwrap_or, codes, arith}
+use Rattle.std.specs.Prelude.{⊤, ◌&&◌, IfSome, option_map, option_and_then, sum_by, flat_map, nat_lt}
 use Rattle.std.proofs.lemmas.List.Sums.{sum_by-append, sum_by-cons}
-use Rattle.std.specs.Ordering.{nat_cmp, match_ordering}
-use Rattle.std.specs.Cmp.Lexicographic.{slice_cmp}
-use Rattle.serde_json.specs.Data.{Data, null, boolean, number, string, array, object, Items, no_items, item, Members, no_members, member}
-use Rattle.spec_walk.specs.Pointer.{under, element}
-use Rattle.spec_walk.specs.Event.{ANode, ALeaf, AnAlias, AnExpression, TooMany, Fault, Event, Name, OneMore, Wrong}
-use Rattle.spec_walk.specs.Limits.{Counts, after, ◌>>=◌, name_limit, from_held}
-use Rattle.spec_walk.specs.Walk.{Walk, Done, Stop, Meet, ◌>>>◌, gives}
-use Rattle.spec_walk.specs.Spot.{Spot, spot, root, is_object, an_object, needed, unless, kind, member_at, if_there, optional, elements, each, named}
+use Rattle.serde_json.specs.Data.{Data}
+use Rattle.spec_walk.specs.Event.{AnExpression, TooMany, Event}
+use Rattle.spec_walk.specs.Limits.{from_held}
+use Rattle.spec_walk.specs.Walk.{Walk, Done, ◌>>>◌}
+use Rattle.spec_walk.specs.Spot.{Spot, root, is_object, an_object, needed, unless, kind, optional, elements, each, named}
 use Rattle.spec_walk.specs.Descend.{Inside}
 use Rattle.spec_walk.proofs.FirstFaultLaws.{answers-gives}
 use Rattle.spec_walk.proofs.CountLaws.{cost, Covers, if_any, covers-gives, covers-then, covers-next, more-before, covers-each, covers-optional, ReaderCovers, covers-elements, unwrapped}

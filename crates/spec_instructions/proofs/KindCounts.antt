@@ -1,12 +1,11 @@
 -- The nodes of a kind in the tree of an accepted document are no more than the things that are counted for them while it is read.
 use Rattle.std.proofs.Common.{◌≡◌, refl, ℕ, ◌+◌, ◌≤◌, Bool, true, false, List, [], ◌∷◌, Option, Some, None, Ok, codes, arith}
-use Rattle.std.specs.Prelude.{⊤}
 use Rattle.std.proofs.lemmas.List.Sums.{sum_by-cons}
 use Rattle.spec_walk.specs.Event.{Thing, Event, NoSet}
 use Rattle.spec_walk.specs.Limits.{Counts}
 use Rattle.spec_walk.specs.FirstFault as thing
 use Rattle.spec_walk.specs.FirstFault.{limit_of}
-use Rattle.spec_walk.specs.Walk.{Walk, Done, Stop, Meet, ◌>>>◌, gives}
+use Rattle.spec_walk.specs.Walk.{Walk, Done, ◌>>>◌, gives}
 use Rattle.spec_walk.specs.Spot.{Spot, an_object, elements, needed, needs, optional, kind, each, named}
 use Rattle.spec_walk.specs.Descend.{Inside, inside_of}
 use Rattle.spec_walk.proofs.CountLaws.{cost, Covers, beside, all_of, if_any, covers-gives, few-gives, covers-then, covers-next, more-before, covers-each, CoversInside, ReaderCovers, covers-inside}

@@ -1,6 +1,7 @@
 pub mod Worked
 pub mod WorkedPaths
 pub mod WorkedAliases
+pub mod OwnLaws
 pub mod ShapeLaws
 pub mod MergedLaws
 pub mod VisibleLaws

@@ -1,10 +1,10 @@
 -- What a walk answers by its first fault is what it gives event by event.
-use Rattle.std.proofs.Common.{◌≡◌, ◌∙◌, sym, ap, refl, ℕ, ◌+◌, Bool, true, false, cond, nat_le, List, [], ◌∷◌, ◌++◌, length, append_assoc, append-nil, count_by, Option, Some, None, Result, Ok, Err, arith}
+use Rattle.std.proofs.Common.{◌≡◌, ◌∙◌, sym, ap, refl, ℕ, ◌+◌, Bool, true, false, cond, nat_le, List, [], ◌∷◌, ◌++◌, length, append_assoc, append-nil, Option, Some, None, Ok, Err, arith}
 use Rattle.std.specs.Option.{option_or}
 use Rattle.std.proofs.lemmas.List.Sums.{sum_by-append}
 use Rattle.spec_walk.specs.Event.{Thing, ANode, ALeaf, AnAlias, AnExpression, Fault, Event, Name, OneMore, Wrong}
 use Rattle.spec_walk.specs.Limits.{Counts, name_limit, node_limit, leaf_limit, alias_limit, expression_limit, after, ◌>>=◌, judged}
-use Rattle.spec_walk.specs.Walk.{Walk, Done, Stop, Meet, events, gives}
+use Rattle.spec_walk.specs.Walk.{Walk, events, gives}
 use Rattle.spec_walk.specs.FirstFault.{is_one_more, count_of, is_held, with_name, names_behind, behind, too_many, fault_of, first_fault, end_of, unless_fault, answers}
 use Rattle.spec_walk.proofs.WalkLaws.{gives-judged}
 

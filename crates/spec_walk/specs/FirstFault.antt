@@ -3,7 +3,7 @@ use Rattle.std.specs.Prelude.{ℕ, ◌+◌, Bool, true, false, nat_le, bytes_eq,
 use Rattle.std.specs.List.{list_any}
 use Rattle.std.specs.Option.{option_or}
 use Rattle.spec_walk.specs.Event.{Thing, ANode, ALeaf, AnAlias, AnExpression, TooMany, Fault, Event, Name, OneMore, Wrong}
-use Rattle.spec_walk.specs.Limits.{Counts, name_limit, node_limit, leaf_limit, alias_limit, expression_limit, ◌>>=◌}
+use Rattle.spec_walk.specs.Limits.{Counts, name_limit, node_limit, leaf_limit, alias_limit, expression_limit}
 use Rattle.spec_walk.specs.Walk.{Walk, Done, Stop, Meet, events}
 
 -- ---- counted things
