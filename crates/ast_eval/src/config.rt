@@ -90,11 +90,11 @@ impl Config {
         })
     }
 
-    /// The parameter at a place, counted from 0, with its state; `None` where there are not so many.
-    pub fn parameter(&self, place: usize) -> Option<(NameId, State)>
-        ensures { option_map (λ p. (p.0.0, state_told p.1)) result ≡ slice_get (zip self.now.names self.now.states) place }
+    /// Parameter `k`, in order, with its state; `None` where there are not so many.
+    pub fn parameter(&self, k: u32) -> Option<(NameId, State)>
+        ensures { option_map (λ p. (p.0.0, state_told p.1)) result ≡ slice_get (zip self.now.names self.now.states) k }
     {
-        match self.states.get_index(place) {
+        match self.states.get_index(k as usize) {
             Some((name, state)) => Some((*name, *state)),
             None => None,
         }

@@ -1,6 +1,6 @@
 use Rattle.std.proofs.Common.{◌≡◌, length}
 use Rattle.expr_classes.specs.Classes.{AllStand}
-use Rattle.expr_classes.proofs.numbering.number.Given as goal
+use Rattle.expr_classes.proofs.numbering.all_classes.Given as goal
 
 abbrev pub invariant-loop-e : goal.invariant-loop-e
 invariant-loop-e l = record {
