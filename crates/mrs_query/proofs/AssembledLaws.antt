@@ -17,7 +17,7 @@ use Rattle.spec_lines.specs.Assembly.{BadLine}
 use Rattle.spec_lines.specs.Reasons.{reason}
 use Rattle.mrs_query.specs.declared.status.Status.{Status}
 use Rattle.mrs_query.specs.declared.status.Status.TheVariants as status
-use Rattle.release_opening.specs.declared.document.Which.TheVariants as which
+use Rattle.mrs_query.specs.declared.which.Which.TheVariants as which
 use Rattle.mrs_query.specs.declared.ended.Ended.{Ended}
 use Rattle.mrs_query.specs.End.{end_of}
 use Rattle.mrs_query.specs.Runs.{HasText, told_as}

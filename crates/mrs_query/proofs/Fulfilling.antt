@@ -1,8 +1,8 @@
 -- What a command ensures of what is asked for.
-use Rattle.std.proofs.Common.{◌≡◌, ◌≤◌, ℕ, List, [], Option, Some, None, is_some, option_map, Ok, Err, refl, sym, ap, subst, arith}
+use Rattle.std.proofs.Common.{◌≡◌, ◌≤◌, ℕ, List, [], Ok, Err, refl, sym, ap, subst, arith}
 use Rattle.spec_command.specs.Commands.{Request}
 use Rattle.spec_run.specs.End.{IsEarly}
-use Rattle.spec_run.specs.Commands.{Needs, opened, work_of, names_document}
+use Rattle.spec_run.specs.Commands.{Needs, opened, work_of, kinds_named}
 use Rattle.spec_run.specs.Ran.{Ran}
 use Rattle.spec_run.specs.Scene.{Scene}
 use Rattle.spec_run.specs.Answers.{Untouched}
@@ -33,11 +33,6 @@ late_of_work status.WriteFault text late = tt
 late_of_work (status.Limit which) text late = tt
 late_of_work status.NoMemory text late = tt
 
--- a document is named, by whatever name
-pub some_named : {X Y : Type 0} (f : X → Y) (o : Option X) → is_some o ≡ is_some (option_map f o)
-some_named f None = refl
-some_named f (Some x) = refl
-
 module _ (s : Scene) (asked : Request) where
   -- it is opened, and the command's work ends so
   pub work_done : (found : Needs asked) (ended : Ended) → Opens (opened asked) s.shelf s.shelf_after (Ok found) → s.shelf_after.documents ≡ s.shelf.documents
@@ -56,5 +51,5 @@ module _ (s : Scene) (asked : Request) where
       work_done found ended opens same (subst IsOfWork told work) (subst (Ran s.input s.input_after s.out s.out_after (work_of asked found)) told ran)
 
   -- it is not opened
-  pub not_opened : (e : OpeningError) → Opens (opened asked) s.shelf s.shelf_after (Err e) → IsOf {A = Needs asked} (names_document asked) (Err e) → s.shelf_after.documents ≡ s.shelf.documents → s.shelf.faults ≤ s.shelf_after.faults → Untouched s → Fulfils asked s (Err e)
+  pub not_opened : (e : OpeningError) → Opens (opened asked) s.shelf s.shelf_after (Err e) → IsOf {A = Needs asked} (kinds_named asked) (Err e) → s.shelf_after.documents ≡ s.shelf.documents → s.shelf.faults ≤ s.shelf_after.faults → Untouched s → Fulfils asked s (Err e)
   not_opened e opens named same later still = (opens, named, still, record { documents = same; shelf = later; input = omega (arith, ap (λ r. r.faults) still.input); out = omega (arith, still.count) })

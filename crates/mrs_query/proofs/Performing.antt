@@ -1,15 +1,16 @@
 -- From what became of what is asked for to what the run did.
-use Rattle.std.proofs.Common.{◌≡◌, ℕ, ℤ, List, [], true, length, Ok, Err, inl, inr, refl, sym, ap, ◌∙◌, subst}
-use Rattle.std.proofs.lemmas.Bool.{false≢true}
-use Rattle.spec_command.specs.Commands.{Request, AskList, AskAsm, AskLeaf, AskConfig, AskProof, AskCheck}
+use Rattle.std.proofs.Common.{◌≡◌, ℕ, ℤ, List, [], length, Ok, Err, inl, inr, refl, sym, ap, ◌∙◌, subst}
+use Rattle.spec_command.specs.Commands.{Request}
 use Rattle.spec_command.specs.Request.{request}
 use Rattle.spec_refutation.specs.Derivation.{Step}
 use Rattle.spec_refutation.specs.Text.{log_text}
-use Rattle.spec_run.specs.End.{End, Done, Ragged, Usage, Document as Refused, Refuted, Question, NoFeature, NoLeaf, Line, ReadFault, WriteFault, Limit, NoMemory, Insns, Features, Log, Input, IsUsage}
-use Rattle.spec_run.specs.Commands.{Needs, opened, names_document}
+use Rattle.spec_run.specs.End.{End, Done, Ragged, Usage, Document as Refused, Refuted, Question, NoFeature, NoLeaf, Line, ReadFault, WriteFault, Limit, NoMemory, Of, Input, IsUsage}
+use Rattle.spec_run.specs.Commands.{Needs, opened, kinds_named}
 use Rattle.spec_run.specs.Scene.{Scene}
 use Rattle.spec_run.specs.Answers.{Untouched, WorkDecides, Means, Says, Performs}
-use Rattle.release_opening.specs.declared.document.Which.TheVariants as which
+use Rattle.release_opening.specs.declared.document.DocumentKind.{DocumentKind}
+use Rattle.release_opening.specs.declared.document.DocumentKind.TheVariants as kinds
+use Rattle.release_opening.specs.Documents.{kind_of, fault_of}
 use Rattle.release_opening.specs.declared.opening_error.OpeningError.{OpeningError}
 use Rattle.release_opening.specs.declared.opening_error.OpeningError.TheVariants as error
 use Rattle.release_opening.specs.Opens.{Opens, IsOf}
@@ -17,6 +18,7 @@ use Rattle.mrs_query.specs.declared.status.Status.{Status}
 use Rattle.mrs_query.specs.declared.status.Status.TheVariants as status
 use Rattle.mrs_query.specs.declared.status.QuestionFault.TheVariants as question
 use Rattle.mrs_query.specs.declared.ended.Ended.{Ended}
+use Rattle.mrs_query.specs.Named.{which_of, which_by}
 use Rattle.mrs_query.specs.End.{end_of}
 use Rattle.mrs_query.specs.Plainly.{IsPlainly}
 use Rattle.mrs_query.specs.Refused.{IsPrintable, TellsLog, Tells}
@@ -24,14 +26,11 @@ use Rattle.mrs_query.specs.Runs.{HasText, told_as}
 use Rattle.mrs_query.specs.Fulfilled.{IsOfWork, Fulfils}
 use Rattle.mrs_query.proofs.Plainly.{plainly_told, plainly_has}
 
--- the words never name the stream as a document
-never_input : (asked : Request) → names_document asked Input ≡ true → ⊥
-never_input (AskList release bare limit by) h = absurd (false≢true h)
-never_input (AskAsm release limit by) h = absurd (false≢true h)
-never_input (AskLeaf release label) h = absurd (false≢true h)
-never_input (AskConfig features pins) h = absurd (false≢true h)
-never_input (AskProof log) h = absurd (false≢true h)
-never_input (AskCheck checks) h = absurd (false≢true h)
+-- a document is named by its kind
+which_is : (kind : DocumentKind) → which_of (which_by kind) ≡ Of (kind_of kind)
+which_is kinds.Insns = refl
+which_is kinds.Features = refl
+which_is kinds.Log = refl
 
 -- a log is told with its text
 log_told : (variables : ℕ) (clauses : List (List ℤ)) (log : List Step) (ended : Ended) → TellsLog variables clauses log ended → told_as ended ≡ Refuted (length log) (log_text variables clauses log)
@@ -49,14 +48,10 @@ module _ (s : Scene) (asked : Request) where
   by_work (Question NoLeaf) work h = h
   by_work (Question (Line number at reason)) work h = h
   by_work (ReadFault Input) work h = h
-  by_work (ReadFault Insns) work h = absurd h.ran.meaning
-  by_work (ReadFault Features) work h = absurd h.ran.meaning
-  by_work (ReadFault Log) work h = absurd h.ran.meaning
+  by_work (ReadFault (Of kind)) work h = absurd h.ran.meaning
   by_work WriteFault work h = h
   by_work (Limit Input) work h = h
-  by_work (Limit Insns) work h = absurd h.ran.meaning
-  by_work (Limit Features) work h = absurd h.ran.meaning
-  by_work (Limit Log) work h = absurd h.ran.meaning
+  by_work (Limit (Of kind)) work h = absurd h.ran.meaning
   by_work NoMemory work h = record { shelf = h.shelf; reached = inr h }
 
   -- nothing was opened
@@ -65,16 +60,11 @@ module _ (s : Scene) (asked : Request) where
     plain_means : (status : Status) → IsPlainly status ended → Means s asked (end_of status []) → Means s asked (told_as ended)
     plain_means status is h = rw (plainly_told status ended is) h
 
-    by_opening : (e : OpeningError) → Tells e ended → Opens (opened asked) s.shelf s.shelf_after (Err e) → IsOf {A = Needs asked} (names_document asked) (Err e) → Means s asked (told_as ended)
-    by_opening (error.NotRead which.Insns) is opens named = plain_means (status.ReadFault which.Insns) is (record { cause = opens; named = named; untouched = still })
-    by_opening (error.NotRead which.Features) is opens named = plain_means (status.ReadFault which.Features) is (record { cause = opens; named = named; untouched = still })
-    by_opening (error.NotRead which.Log) is opens named = plain_means (status.ReadFault which.Log) is (record { cause = opens; named = named; untouched = still })
-    by_opening (error.NotRead which.Input) is opens named = absurd (never_input asked named)
-    by_opening (error.TooLong which.Insns) is opens named = plain_means (status.Limit which.Insns) is (record { cause = opens; named = named; untouched = still })
-    by_opening (error.TooLong which.Features) is opens named = plain_means (status.Limit which.Features) is (record { cause = opens; named = named; untouched = still })
-    by_opening (error.TooLong which.Log) is opens named = plain_means (status.Limit which.Log) is (record { cause = opens; named = named; untouched = still })
-    by_opening (error.TooLong which.Input) is opens named = absurd (never_input asked named)
-    by_opening (error.Refused which fault) is opens named = plain_means (status.Document which fault) is (record { cause = opens; named = named; untouched = still })
+    by_opening : (e : OpeningError) → Tells e ended → Opens (opened asked) s.shelf s.shelf_after (Err e) → IsOf {A = Needs asked} (kinds_named asked) (Err e) → Means s asked (told_as ended)
+    by_opening (error.NotRead kind) is opens named = plain_means (status.ReadFault (which_by kind)) is (subst (λ which. Means s asked (ReadFault which)) (sym (which_is kind)) (record { cause = opens; named = named; untouched = still }))
+    by_opening (error.TooLong kind) is opens named = plain_means (status.Limit (which_by kind)) is (subst (λ which. Means s asked (Limit which)) (sym (which_is kind)) (record { cause = opens; named = named; untouched = still }))
+    by_opening (error.Refused kind fault) is opens named =
+        plain_means (status.Document (which_by kind) fault) is (subst (λ which. Means s asked (Refused which (fault_of fault))) (sym (which_is kind)) (record { cause = opens; named = named; untouched = still }))
     by_opening (error.UnknownPin pin) is opens named = plain_means (status.Question (question.NoFeature pin)) is (record { cause = opens; named = tt; untouched = still })
     by_opening (error.NoneFits cnf log) is opens named = elim is [
       | inl none ↦ plain_means status.NoMemory none (record { shelf = opens.0.1; reached = inl still })
@@ -90,18 +80,18 @@ module _ (s : Scene) (asked : Request) where
 
   -- a log that shows that no configuration fits can be printed
   pub printable : (e : OpeningError) → Opens (opened asked) s.shelf s.shelf_after (Err e) → IsPrintable e
-  printable (error.NotRead which) opens = tt
-  printable (error.TooLong which) opens = tt
-  printable (error.Refused which fault) opens = tt
+  printable (error.NotRead kind) opens = tt
+  printable (error.TooLong kind) opens = tt
+  printable (error.Refused kind fault) opens = tt
   printable (error.UnknownPin pin) opens = tt
   printable (error.NoneFits cnf log) opens = opens.2
   printable error.NoMemory opens = tt
 
   -- the text with which an error is told
   pub opening_text : (e : OpeningError) (ended : Ended) → Tells e ended → Opens (opened asked) s.shelf s.shelf_after (Err e) → HasText ended.status ended.text.items
-  opening_text (error.NotRead which) ended is opens = plainly_has (status.ReadFault which) ended refl is
-  opening_text (error.TooLong which) ended is opens = plainly_has (status.Limit which) ended refl is
-  opening_text (error.Refused which fault) ended is opens = plainly_has (status.Document which fault) ended refl is
+  opening_text (error.NotRead kind) ended is opens = plainly_has (status.ReadFault (which_by kind)) ended refl is
+  opening_text (error.TooLong kind) ended is opens = plainly_has (status.Limit (which_by kind)) ended refl is
+  opening_text (error.Refused kind fault) ended is opens = plainly_has (status.Document (which_by kind) fault) ended refl is
   opening_text (error.UnknownPin pin) ended is opens = plainly_has (status.Question (question.NoFeature pin)) ended refl is
   opening_text (error.NoneFits cnf log) ended is opens = elim is [
     | inl none ↦ plainly_has status.NoMemory ended refl none

@@ -9,7 +9,7 @@ use Rattle.list_words.specs.declared.lister.Lister.{Lister}
 use Rattle.list_words.specs.declared.line_fault.LineFault.{LineFault}
 use Rattle.asm_stream.specs.declared.ended.Ended as asm
 use Rattle.asm_stream.specs.declared.ended.Ended.TheVariants as how
-use Rattle.release_opening.specs.declared.document.Which.TheVariants as which
+use Rattle.mrs_query.specs.declared.which.Which.TheVariants as which
 use Rattle.mrs_query.specs.declared.status.Status.TheVariants as status
 use Rattle.mrs_query.specs.declared.ended.Ended.{Ended}
 use Rattle.mrs_query.specs.Plainly.{IsPlainly}

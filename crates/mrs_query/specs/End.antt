@@ -1,7 +1,8 @@
 -- What the statuses of the code stand for.
 use Rattle.std.specs.Prelude.{ℕ, List}
 use Rattle.spec_run.specs.End as run
-use Rattle.release_opening.specs.Documents.{which_of, fault_of}
+use Rattle.release_opening.specs.Documents.{fault_of}
+use Rattle.mrs_query.specs.Named.{which_of}
 use Rattle.mrs_query.specs.declared.status.QuestionFault.{QuestionFault}
 use Rattle.mrs_query.specs.declared.status.QuestionFault.TheVariants as question
 use Rattle.mrs_query.specs.declared.status.Status.{Status}

@@ -3,7 +3,7 @@ use Rattle.std.specs.Prelude.{Result, Ok, Err, ⊤}
 use Rattle.spec_command.specs.Commands.{Request}
 use Rattle.spec_io.specs.States.{Shelving, Reading, Writing}
 use Rattle.spec_run.specs.End.{End, Question, NoFeature}
-use Rattle.spec_run.specs.Commands.{Needs, opened, names_document}
+use Rattle.spec_run.specs.Commands.{Needs, opened, kinds_named}
 use Rattle.spec_run.specs.Scene.{Scene, Kept}
 use Rattle.spec_run.specs.Answers.{Untouched, WorkDecides}
 use Rattle.release_opening.specs.declared.opening_error.OpeningError.{OpeningError}
@@ -18,7 +18,7 @@ IsOfWork end = ⊤
 
 abbrev pub Fulfils : Request → Scene → Result Ended OpeningError → Type 0
 Fulfils asked s (Ok ended) = WorkDecides s asked (told_as ended) × IsOfWork (told_as ended) × Kept s
-Fulfils asked s (Err error) = Opens (opened asked) s.shelf s.shelf_after (Err error) × IsOf {A = Needs asked} (names_document asked) (Err error) × Untouched s × Kept s
+Fulfils asked s (Err error) = Opens (opened asked) s.shelf s.shelf_after (Err error) × IsOf {A = Needs asked} (kinds_named asked) (Err error) × Untouched s × Kept s
 
 -- the same of a command that does not read the stream, whatever source stands by
 abbrev pub FulfilsOnce : Request → Shelving → Shelving → Writing → Writing → Result Ended OpeningError → Type 0

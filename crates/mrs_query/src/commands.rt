@@ -2,6 +2,7 @@
 ghost use Rattle.std.specs.Prelude.{◌≡◌, [], IfOk, MatchResult};
 ghost use Rattle.mrs_command.specs.Commands.{asked_of, IsLimited, ArePinsFew};
 ghost use Rattle.spec_run.specs.End.{IsEarly};
+ghost use Rattle.spec_run.specs.Commands.{IsOverStream};
 ghost use Rattle.mrs_query.specs.End.{end_of};
 ghost use Rattle.mrs_query.specs.Fulfilled.{Fulfils};
 ghost use Rattle.mrs_query.specs.Runs.{HasText};
@@ -40,6 +41,7 @@ pub(crate) fn fulfil<V: Shelf, S: Source, K: Sink>(
     ensures text { IfOk result (λ ended. HasText ended.status ended.text.items) }
     ensures early { MatchResult result (λ ended. IsEarly (end_of ended.status []) → (input.new ≡ input.old) × (out.new ≡ out.old))
         (λ _. (input.new ≡ input.old) × (out.new ≡ out.old)) }
+    ensures unread { ¬ IsOverStream (asked_of asked.entry) → input.new ≡ input.old }
 {
     match asked {
         Request::List {

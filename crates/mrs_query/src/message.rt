@@ -4,7 +4,7 @@ ghost use Rattle.spec_run.specs.End as run;
 ghost use Rattle.spec_run.specs.End.{message, why_text};
 ghost use Rattle.spec_run.specs.Scene.{TookText};
 ghost use Rattle.mrs_schema.specs.Faults as schema;
-ghost use Rattle.release_opening.specs.Documents.{which_of};
+ghost use Rattle.mrs_query.specs.Named.{which_of};
 ghost use Rattle.mrs_query.specs.Runs.{told_as};
 ghost use Rattle.mrs_query.specs.Texts.{joined};
 ghost use Rattle.mrs_query.specs.Wrote.{Wrote, member_of};
@@ -12,10 +12,11 @@ ghost use Rattle.mrs_query.specs.Wrote.{Wrote, member_of};
 use crate::ended::Ended;
 use crate::parts::write_parts;
 use crate::status::{QuestionFault, Status};
+use crate::which::Which;
 use itoa::Buffer;
 use mrs_io::{Failed, Sink, write_whole};
 use mrs_schema::{SchemaFault, Why};
-use release_opening::{DocFault, Which};
+use release_opening::DocFault;
 
 /// What a status names.
 fn which_text(which: Which) -> &'static [u8]

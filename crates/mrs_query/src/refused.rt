@@ -6,7 +6,7 @@ ghost use Rattle.mrs_query.specs.End.{end_of};
 ghost use Rattle.mrs_query.specs.Refused.{IsPrintable, Tells, TellsRefutation};
 
 use crate::ended::Ended;
-use crate::{QuestionFault, Status};
+use crate::{QuestionFault, Status, Which};
 use feat_proof::{Cnf, Log, print_log};
 use release_opening::OpeningError;
 use std::alloc::Global;
@@ -19,9 +19,16 @@ pub(crate) fn refused(alloc: Global, error: OpeningError) -> Ended
 {
     let status = match error {
         OpeningError::NoneFits { cnf, log } => return refutation(alloc, &cnf, &log),
-        OpeningError::NotRead { which } => Status::ReadFault { which },
-        OpeningError::TooLong { which } => Status::Limit { which },
-        OpeningError::Refused { which, fault } => Status::Document { which, fault },
+        OpeningError::NotRead { kind } => Status::ReadFault {
+            which: Which::of(kind),
+        },
+        OpeningError::TooLong { kind } => Status::Limit {
+            which: Which::of(kind),
+        },
+        OpeningError::Refused { kind, fault } => Status::Document {
+            which: Which::of(kind),
+            fault,
+        },
         OpeningError::UnknownPin { pin } => Status::Question {
             fault: QuestionFault::NoFeature { pin },
         },

@@ -4,7 +4,8 @@ ghost use Rattle.spec_run.specs.End.{exit_number};
 ghost use Rattle.mrs_query.specs.End.{end_of};
 
 use list_words::LineFault;
-use release_opening::{DocFault, Which};
+use crate::which::Which;
+use release_opening::DocFault;
 
 /// Why a question has no answer.
 #[derive(Clone, Copy, Debug, PartialEq, Eq)]

@@ -1,6 +1,7 @@
 //! The top call.
 ghost use Rattle.std.specs.Prelude.{◌≡◌, ℕ, List, map, string_bytes, []};
 ghost use Rattle.spec_run.specs.End.{message, IsEarly, IsUsage};
+ghost use Rattle.spec_run.specs.Commands.{ReadTheStream};
 ghost use Rattle.spec_run.specs.Answers.{Performs};
 ghost use Rattle.mrs_query.specs.End.{end_of};
 ghost use Rattle.mrs_query.specs.Runs.{HasText, told_as, Runs};
@@ -34,6 +35,7 @@ fn perform<V: Shelf, S: Source, K: Sink>(
     }) (told_as result) }
     ensures text { HasText result.status result.text.items }
     ensures early { IsEarly (end_of result.status []) → (input.new ≡ input.old) × (out.new ≡ out.old) }
+    ensures unread { ¬ ReadTheStream (map string_bytes words.now) → input.new ≡ input.old }
     ensures misused { IsUsage (end_of result.status []) → shelf.new ≡ shelf.old }
 {
     let asked = match read_request(words) {
@@ -72,6 +74,8 @@ pub fn run<R: Threads + Sync, V: Shelf, S: Source, K: Sink, E: Sink>(
     // Before the stream nothing is read from it and nothing goes out; refused words do not touch the shelf.
     ensures early { IsEarly (end_of result []) → (input.new ≡ input.old) × (out.new ≡ out.old) }
     ensures misused { IsUsage (end_of result []) → shelf.new ≡ shelf.old }
+    // Whatever its status, a command that does not read the stream leaves the source as it was.
+    ensures unread { ¬ ReadTheStream (map string_bytes words.now) → input.new ≡ input.old }
     // Where there is nothing to say, `err` is not touched.
     ensures quiet { (text : List ℕ) → HasText result text → message (end_of result text) ≡ [] → err.new ≡ err.old }
 {

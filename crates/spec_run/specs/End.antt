@@ -1,12 +1,11 @@
 -- How a run ends: its status, the number with which the program ends, and the text on `err`.
 use Rattle.std.specs.Prelude.{ℕ, List, [], ◌∷◌, ◌++◌, codes, decimal, ⊤}
+use Rattle.spec_run.specs.Kinds.{DocumentKind, Insns, Features, Log}
 use Rattle.spec_walk.specs.Event.{Fault, Why, Missing, UnlistedKind, WrongShape, BadPattern, BadRange, BadName, Doubled, TooMany, NoSet}
 
--- what a status names: the Instructions document, the Features document, the log, or the stream
+-- what a status names: the document of a kind, or the stream
 pub data Which : Type 0 where
-  Insns : Which
-  Features : Which
-  Log : Which
+  Of : DocumentKind → Which
   Input : Which
 
 -- a document has no JSON reading, or the walk over it has this first fault; a log is not as demanded at this byte
@@ -49,12 +48,8 @@ IsEarly (Usage place) = ⊤
 IsEarly (Document which fault) = ⊤
 IsEarly (Refuted steps log) = ⊤
 IsEarly (Question fault) = IsAsked fault
-IsEarly (ReadFault Insns) = ⊤
-IsEarly (ReadFault Features) = ⊤
-IsEarly (ReadFault Log) = ⊤
-IsEarly (Limit Insns) = ⊤
-IsEarly (Limit Features) = ⊤
-IsEarly (Limit Log) = ⊤
+IsEarly (ReadFault (Of kind)) = ⊤
+IsEarly (Limit (Of kind)) = ⊤
 IsEarly end = ⊥
 
 -- the words were refused
@@ -76,10 +71,13 @@ exit_number WriteFault = 7
 exit_number (Limit which) = 8
 exit_number NoMemory = 9
 
+abbrev pub kind_text : DocumentKind → List ℕ
+kind_text Insns = codes "insns"
+kind_text Features = codes "features"
+kind_text Log = codes "log"
+
 abbrev pub which_text : Which → List ℕ
-which_text Insns = codes "insns"
-which_text Features = codes "features"
-which_text Log = codes "log"
+which_text (Of kind) = kind_text kind
 which_text Input = codes "input"
 
 abbrev pub why_text : Why → List ℕ

@@ -1,3 +1,5 @@
+pub mod Kinds
+pub mod Documents
 pub mod End
 pub mod Opening
 pub mod Refutation

@@ -12,12 +12,12 @@ ghost use Rattle.mrs_query.specs.Fulfilled.{Fulfils};
 ghost use Rattle.mrs_query.specs.Runs.{HasText, told_as};
 
 use crate::ended::Ended;
-use crate::{QuestionFault, Status};
+use crate::{QuestionFault, Status, Which};
 use asm_stream::assemble_stream;
 use list_words::{LineFault, Lister, push_reason};
 use mrs_command::{Configured, Release};
 use mrs_io::{Shelf, Sink, Source};
-use release_opening::{Opened, OpeningError, Which, open_release};
+use release_opening::{Opened, OpeningError, open_release};
 use std::alloc::{AllocError, Global};
 
 /// Opens a set under a configuration, and assembles the lines of at most `max` bytes of the stream.

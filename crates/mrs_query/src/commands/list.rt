@@ -12,12 +12,12 @@ ghost use Rattle.mrs_query.specs.End.{end_of};
 ghost use Rattle.mrs_query.specs.Fulfilled.{Fulfils};
 ghost use Rattle.mrs_query.specs.Runs.{HasText};
 
-use crate::Status;
 use crate::ended::Ended;
+use crate::{Status, Which};
 use list_stream::list_stream;
 use mrs_command::{Configured, Release};
 use mrs_io::{Shelf, Sink, Source};
-use release_opening::{Opened, OpeningError, Which, open_release};
+use release_opening::{Opened, OpeningError, open_release};
 use std::alloc::Global;
 
 /// Opens a set under a configuration, and lists the words of at most `max` bytes of the stream.
