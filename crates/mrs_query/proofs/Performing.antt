@@ -4,10 +4,12 @@ use Rattle.spec_command.specs.Commands.{Request}
 use Rattle.spec_command.specs.Request.{request}
 use Rattle.spec_refutation.specs.Derivation.{Step}
 use Rattle.spec_refutation.specs.Text.{log_text}
+use Rattle.spec_lines.specs.LineFault.{LineWhy, Long}
+use Rattle.list_words.specs.declared.lister.Lister.{Lister}
 use Rattle.spec_run.specs.End.{End, Done, Ragged, Usage, Document as Refused, Refuted, Question, NoFeature, NoLeaf, Line, ReadFault, WriteFault, Limit, NoMemory, Of, Input, IsUsage}
 use Rattle.spec_run.specs.Commands.{Needs, opened, kinds_named}
 use Rattle.spec_run.specs.Scene.{Scene}
-use Rattle.spec_run.specs.Answers.{Untouched, WorkDecides, Means, Says, Performs}
+use Rattle.spec_run.specs.Answers.{Untouched, WorkDecides, Means, Says}
 use Rattle.release_opening.specs.declared.document.DocumentKind.{DocumentKind}
 use Rattle.release_opening.specs.declared.document.DocumentKind.TheVariants as kinds
 use Rattle.release_opening.specs.Documents.{kind_of, fault_of}
@@ -19,12 +21,12 @@ use Rattle.mrs_query.specs.declared.status.Status.TheVariants as status
 use Rattle.mrs_query.specs.declared.status.QuestionFault.TheVariants as question
 use Rattle.mrs_query.specs.declared.ended.Ended.{Ended}
 use Rattle.mrs_query.specs.Named.{which_of, which_by}
-use Rattle.mrs_query.specs.End.{end_of}
+use Rattle.mrs_query.specs.End.{end_of, bare_end}
 use Rattle.mrs_query.specs.Plainly.{IsPlainly}
 use Rattle.mrs_query.specs.Refused.{IsPrintable, TellsLog, Tells}
-use Rattle.mrs_query.specs.Runs.{HasText, told_as}
+use Rattle.mrs_query.specs.Runs.{HasText, IsOpenedFor, IsOpenedBy, told_as, Performed}
 use Rattle.mrs_query.specs.Fulfilled.{IsOfWork, Fulfils}
-use Rattle.mrs_query.proofs.Plainly.{plainly_told, plainly_has}
+use Rattle.mrs_query.proofs.Plainly.{plainly_told, plainly_has, has_by}
 
 -- a document is named by its kind
 which_is : (kind : DocumentKind) → which_of (which_by kind) ≡ Of (kind_of kind)
@@ -33,8 +35,8 @@ which_is kinds.Features = refl
 which_is kinds.Log = refl
 
 -- a log is told with its text
-log_told : (variables : ℕ) (clauses : List (List ℤ)) (log : List Step) (ended : Ended) → TellsLog variables clauses log ended → told_as ended ≡ Refuted (length log) (log_text variables clauses log)
-log_told variables clauses log ended h = ap (end_of ended.status) h.text_is ∙ ap (λ s. end_of s (log_text variables clauses log)) h.status_is
+log_told : (variables : ℕ) (clauses : List (List ℤ)) (log : List Step) (ended : Ended) → TellsLog variables clauses log ended → told_as Long ended ≡ Refuted (length log) (log_text variables clauses log)
+log_told variables clauses log ended h = ap (end_of ended.status Long) h.text_is ∙ ap (λ s. end_of s Long (log_text variables clauses log)) h.status_is
 
 module _ (s : Scene) (asked : Request) where
   -- the command's work decided
@@ -46,7 +48,7 @@ module _ (s : Scene) (asked : Request) where
   by_work (Refuted steps log) work h = absurd h.ran.meaning
   by_work (Question (NoFeature pin)) work h = absurd work
   by_work (Question NoLeaf) work h = h
-  by_work (Question (Line number at reason)) work h = h
+  by_work (Question (Line number at why reason)) work h = h
   by_work (ReadFault Input) work h = h
   by_work (ReadFault (Of kind)) work h = absurd h.ran.meaning
   by_work WriteFault work h = h
@@ -57,10 +59,10 @@ module _ (s : Scene) (asked : Request) where
   -- nothing was opened
   module _ (ended : Ended) (still : Untouched s) where
     -- and a status without a text says so
-    plain_means : (status : Status) → IsPlainly status ended → Means s asked (end_of status []) → Means s asked (told_as ended)
+    plain_means : (status : Status) → IsPlainly status ended → Means s asked (bare_end status) → Means s asked (told_as Long ended)
     plain_means status is h = rw (plainly_told status ended is) h
 
-    by_opening : (e : OpeningError) → Tells e ended → Opens (opened asked) s.shelf s.shelf_after (Err e) → IsOf {A = Needs asked} (kinds_named asked) (Err e) → Means s asked (told_as ended)
+    by_opening : (e : OpeningError) → Tells e ended → Opens (opened asked) s.shelf s.shelf_after (Err e) → IsOf {A = Needs asked} (kinds_named asked) (Err e) → Means s asked (told_as Long ended)
     by_opening (error.NotRead kind) is opens named = plain_means (status.ReadFault (which_by kind)) is (subst (λ which. Means s asked (ReadFault which)) (sym (which_is kind)) (record { cause = opens; named = named; untouched = still }))
     by_opening (error.TooLong kind) is opens named = plain_means (status.Limit (which_by kind)) is (subst (λ which. Means s asked (Limit which)) (sym (which_is kind)) (record { cause = opens; named = named; untouched = still }))
     by_opening (error.Refused kind fault) is opens named =
@@ -88,13 +90,13 @@ module _ (s : Scene) (asked : Request) where
   printable error.NoMemory opens = tt
 
   -- the text with which an error is told
-  pub opening_text : (e : OpeningError) (ended : Ended) → Tells e ended → Opens (opened asked) s.shelf s.shelf_after (Err e) → HasText ended.status ended.text.items
-  opening_text (error.NotRead kind) ended is opens = plainly_has (status.ReadFault (which_by kind)) ended refl is
-  opening_text (error.TooLong kind) ended is opens = plainly_has (status.Limit (which_by kind)) ended refl is
-  opening_text (error.Refused kind fault) ended is opens = plainly_has (status.Document (which_by kind) fault) ended refl is
-  opening_text (error.UnknownPin pin) ended is opens = plainly_has (status.Question (question.NoFeature pin)) ended refl is
-  opening_text (error.NoneFits cnf log) ended is opens = elim is [
-    | inl none ↦ plainly_has status.NoMemory ended refl none
+  pub opening_text : (by : Lister → Type 0) (e : OpeningError) (ended : Ended) → Tells e ended → Opens (opened asked) s.shelf s.shelf_after (Err e) → HasText by ended.status Long ended.text.items
+  opening_text by (error.NotRead kind) ended is opens = plainly_has by Long (status.ReadFault (which_by kind)) ended tt is
+  opening_text by (error.TooLong kind) ended is opens = plainly_has by Long (status.Limit (which_by kind)) ended tt is
+  opening_text by (error.Refused kind fault) ended is opens = plainly_has by Long (status.Document (which_by kind) fault) ended tt is
+  opening_text by (error.UnknownPin pin) ended is opens = plainly_has by Long (status.Question (question.NoFeature pin)) ended tt is
+  opening_text by (error.NoneFits cnf log) ended is opens = elim is [
+    | inl none ↦ plainly_has by Long status.NoMemory ended tt none
     | inr told ↦
         rw told.status_is (record {
           variables = cnf.0;
@@ -102,20 +104,20 @@ module _ (s : Scene) (asked : Request) where
           refutation = record { log = log; refutes = opens.1; is_log = opens.2; count = refl; text_is = told.text_is };
         })
   ]
-  opening_text error.NoMemory ended is opens = plainly_has status.NoMemory ended refl is
+  opening_text by error.NoMemory ended is opens = plainly_has by Long status.NoMemory ended tt is
 
   -- a command's work does not end as refused words do
-  pub never_usage : (status : Status) (text : List ℕ) → WorkDecides s asked (end_of status text) → IsUsage (end_of status []) → ⊥
-  never_usage (status.Usage place) text h usage = h.ran.meaning
-  never_usage status.Done text h usage = usage
-  never_usage (status.Ragged rest) text h usage = usage
-  never_usage (status.Document which fault) text h usage = usage
-  never_usage (status.Refuted steps) text h usage = usage
-  never_usage (status.Question fault) text h usage = usage
-  never_usage (status.ReadFault which) text h usage = usage
-  never_usage status.WriteFault text h usage = usage
-  never_usage (status.Limit which) text h usage = usage
-  never_usage status.NoMemory text h usage = usage
+  pub never_usage : (status : Status) (why : LineWhy) (text : List ℕ) → WorkDecides s asked (end_of status why text) → IsUsage (bare_end status) → ⊥
+  never_usage (status.Usage place) why text h usage = h.ran.meaning
+  never_usage status.Done why text h usage = usage
+  never_usage (status.Ragged rest) why text h usage = usage
+  never_usage (status.Document which fault) why text h usage = usage
+  never_usage (status.Refuted steps) why text h usage = usage
+  never_usage (status.Question fault) why text h usage = usage
+  never_usage (status.ReadFault which) why text h usage = usage
+  never_usage status.WriteFault why text h usage = usage
+  never_usage (status.Limit which) why text h usage = usage
+  never_usage status.NoMemory why text h usage = usage
 
 module _ (words : List (List ℕ)) (s : Scene) (asked : Request) (says : request words ≡ Ok asked) where
   -- a status says this of words that ask for something
@@ -131,8 +133,16 @@ module _ (words : List (List ℕ)) (s : Scene) (asked : Request) (says : request
   asked_says (Limit which) h = record { asked = asked; says = says; means = h }
   asked_says NoMemory h = record { asked = asked; says = says; means = h }
 
-  pub performs_work : (ended : Ended) → Fulfils asked s (Ok ended) → Performs words s (told_as ended)
-  performs_work ended h = record { says = asked_says (told_as ended) (by_work s asked (told_as ended) h.1 h.0); kept = h.2 }
+  pub performs_work : (ended : Ended) → Fulfils asked s (Ok ended) → Performed words s ended
+  performs_work ended h = record {
+    why = h.why;
+    is = has_by (IsOpenedFor asked s) (IsOpenedBy words s) (λ lister is. (asked, says, is)) h.why ended.text.items ended.status h.text;
+    performs = record { says = asked_says (told_as h.why ended) (by_work s asked (told_as h.why ended) h.of_work h.decides); kept = h.kept };
+  }
 
-  pub performs_opening : (e : OpeningError) (ended : Ended) → Tells e ended → Fulfils asked s (Err e) → Performs words s (told_as ended)
-  performs_opening e ended is h = record { says = asked_says (told_as ended) (by_opening s asked ended h.2 e is h.0 h.1); kept = h.3 }
+  pub performs_opening : (e : OpeningError) (ended : Ended) → Tells e ended → Fulfils asked s (Err e) → Performed words s ended
+  performs_opening e ended is h = record {
+    why = Long;
+    is = opening_text s asked (IsOpenedBy words s) e ended is h.0;
+    performs = record { says = asked_says (told_as Long ended) (by_opening s asked ended h.2 e is h.0 h.1); kept = h.3 };
+  }

@@ -2,7 +2,7 @@
 ghost use Rattle.std.specs.Prelude.{[]};
 ghost use Rattle.spec_refutation.specs.Reading.{IsLog};
 ghost use Rattle.spec_run.specs.End.{IsUsage};
-ghost use Rattle.mrs_query.specs.End.{end_of};
+ghost use Rattle.mrs_query.specs.End.{bare_end};
 ghost use Rattle.mrs_query.specs.Refused.{IsPrintable, Tells, TellsRefutation};
 
 use crate::ended::Ended;
@@ -15,7 +15,7 @@ use std::alloc::Global;
 pub(crate) fn refused(alloc: Global, error: OpeningError) -> Ended
     requires { IsPrintable error }
     ensures tells { Tells error result }
-    ensures unused { ¬ IsUsage (end_of result.status []) }
+    ensures unused { ¬ IsUsage (bare_end result.status) }
 {
     let status = match error {
         OpeningError::NoneFits { cnf, log } => return refutation(alloc, &cnf, &log),
@@ -41,7 +41,7 @@ pub(crate) fn refused(alloc: Global, error: OpeningError) -> Ended
 fn refutation(alloc: Global, cnf: &Cnf, log: &Log) -> Ended
     requires { IsLog cnf.now.0 cnf.now.1 log.now }
     ensures tells { TellsRefutation cnf.now.0 cnf.now.1 log.now result }
-    ensures unused { ¬ IsUsage (end_of result.status []) }
+    ensures unused { ¬ IsUsage (bare_end result.status) }
 {
     match print_log(alloc, cnf, log) {
         Ok(text) => Ended {

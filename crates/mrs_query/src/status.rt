@@ -1,5 +1,6 @@
 //! How a run ends.
 ghost use Rattle.std.specs.Prelude.{◌≡◌, ℕ, List};
+ghost use Rattle.spec_lines.specs.LineFault.{LineWhy};
 ghost use Rattle.spec_run.specs.End.{exit_number};
 ghost use Rattle.mrs_query.specs.End.{end_of};
 
@@ -46,7 +47,7 @@ pub enum Status {
 impl Status {
     /// The number with which the program ends.
     pub fn exit_number(&self) -> u8
-        ensures { (text : List ℕ) → result ≡ exit_number (end_of self.now text) }
+        ensures { (why : LineWhy) (text : List ℕ) → result ≡ exit_number (end_of self.now why text) }
     {
         match self {
             Status::Done => 0,

@@ -176,7 +176,7 @@ module _ (words : List (List ℕ)) (s : Scene) (docs : List Named) (bytes : List
     exact (Refuted steps log) h a = unfitting steps log h
     exact (Question (NoFeature pin)) h a = by_opening (UnknownPin pin) (Question (NoFeature pin)) refl h.cause.0 h.untouched
     exact (Question NoLeaf) h a = whole (Question NoLeaf) h h.ran.meaning
-    exact (Question (Line number at reason)) h a = whole (Question (Line number at reason)) h h.ran.meaning
+    exact (Question (Line number at why reason)) h a = whole (Question (Line number at why reason)) h h.ran.meaning
     exact (ReadFault which) h a = absurd a
     exact WriteFault h a = absurd a
     exact (Limit (Of kind)) h a = by_opening (TooLong kind) (Limit (Of kind)) refl h.cause.0 h.untouched

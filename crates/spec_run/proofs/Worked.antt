@@ -12,6 +12,7 @@ use Rattle.spec_decode.specs.Machine.{Machine}
 use Rattle.spec_command.specs.Request.{request}
 use Rattle.spec_command.specs.Commands.{Configured, Request, AskList, AskLeaf}
 use Rattle.spec_run.specs.RoundTrip.{AreInverse}
+use Rattle.spec_lines.specs.LineFault.{Pair}
 use Rattle.spec_run.specs.Kinds.{Insns, Log}
 use Rattle.spec_run.specs.Documents.{under_names}
 use Rattle.spec_run.specs.End.{Done, Ragged, Usage, Document, Question, NoLeaf, Line, ReadFault, WriteFault, Limit, Of, Input, Json, Schema, Syntax, message}
@@ -56,7 +57,7 @@ kind_text = refl
 leaf_text : message (Question NoLeaf) ≡ codes "leaf\n"
 leaf_text = refl
 
-line_text : message (Question (Line 12 5 (codes "missing Rd"))) ≡ codes "line 12 5 missing Rd\n"
+line_text : message (Question (Line 12 5 Pair (codes "pair"))) ≡ codes "line 12 5 pair\n"
 unfolding digits
 line_text = refl
 

@@ -1,5 +1,6 @@
 -- How a run ends: its status, the number with which the program ends, and the text on `err`.
 use Rattle.std.specs.Prelude.{ℕ, List, [], ◌∷◌, ◌++◌, codes, decimal, ⊤}
+use Rattle.spec_lines.specs.LineFault.{LineWhy}
 use Rattle.spec_run.specs.Kinds.{DocumentKind, Insns, Features, Log}
 use Rattle.spec_walk.specs.Event.{Fault, Why, Missing, UnlistedKind, WrongShape, BadPattern, BadRange, BadName, Doubled, TooMany, NoSet}
 
@@ -15,11 +16,11 @@ pub data DocFault : Type 0 where
   Syntax : ℕ → DocFault
 
 -- a question has no answer: the pin of that number, counted from 0, names no boolean parameter; no leaf has the label; or a line
--- is refused: its number, counted from 1, the byte, and the reason
+-- is refused: its number, counted from 1, the byte, why, and the reason, which is the text of that
 pub data QuestionFault : Type 0 where
   NoFeature : ℕ → QuestionFault
   NoLeaf : QuestionFault
-  Line : (number at : ℕ) → (reason : List ℕ) → QuestionFault
+  Line : (number at : ℕ) → LineWhy → (reason : List ℕ) → QuestionFault
 
 -- the statuses. Where no configuration fits, the status has the number of steps of a log that shows it, and the log's text
 pub data End : Type 0 where
@@ -40,7 +41,7 @@ pub data End : Type 0 where
 abbrev pub IsAsked : QuestionFault → Type 0
 IsAsked (NoFeature pin) = ⊤
 IsAsked NoLeaf = ⊤
-IsAsked (Line number at reason) = ⊥
+IsAsked (Line number at why reason) = ⊥
 
 -- the run ended before the stream was looked at, and nothing went out
 abbrev pub IsEarly : End → Type 0
@@ -100,7 +101,7 @@ fault_text (Syntax at) = codes "syntax " ++ decimal at
 abbrev pub question_text : QuestionFault → List ℕ
 question_text (NoFeature pin) = codes "feature " ++ decimal pin
 question_text NoLeaf = codes "leaf"
-question_text (Line number at reason) = codes "line " ++ (decimal number ++ (32 ∷ (decimal at ++ 32 ∷ reason)))
+question_text (Line number at why reason) = codes "line " ++ (decimal number ++ (32 ∷ (decimal at ++ 32 ∷ reason)))
 
 abbrev pub message : End → List ℕ
 message Done = []

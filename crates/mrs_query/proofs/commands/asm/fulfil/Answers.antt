@@ -1,8 +1,12 @@
-use Rattle.std.proofs.Common.{refl}
+use Rattle.std.proofs.Common.{◌≡◌, refl, sym, subst, Ok}
 use Rattle.std.proofs.KnownBytes.{Keeps-refl}
 use Rattle.std.proofs.lemmas.Result.{err_from_is_err_and}
 use Rattle.spec_command.specs.Commands.{AskAsm}
 use Rattle.mrs_command.specs.Commands.{release_of, configured_of}
+use Rattle.list_words.specs.Listers.{machine}
+use Rattle.spec_run.specs.Opening.{machine_opened}
+use Rattle.spec_run.specs.Opens.{DocumentsGive}
+use Rattle.mrs_query.proofs.Plainly.{has_by}
 use Rattle.mrs_query.proofs.Fulfilling.{late_of_work, work_done, not_opened}
 use Rattle.mrs_query.proofs.commands.asm.fulfil.Goals as goal
 
@@ -15,4 +19,13 @@ returns-in_err-opened-clause-fulfils g c =
 pub returns-clause-fulfils : goal.returns-clause-fulfils
 returns-clause-fulfils g c =
     let o = c.in_ok-opened in
-    work_done _ (AskAsm (release_of c.args.release) c.args.max (configured_of c.args.configured)) o.opened c.assemble.result o.ensures.opens o.ensures.same (late_of_work c.assemble.result.status c.assemble.result.text.items c.assemble.ensures.late) c.assemble.ensures.ran
+    let release = release_of c.args.release in
+    let asked = configured_of c.args.configured in
+    let shelf = g.V.Shelf.shelving c.args.shelf.now in
+    let after = g.V.Shelf.shelving c.open_release.new.shelf in
+    let a = c.assemble.ensures.assembled in
+    let text =
+        has_by (λ lister. machine lister ≡ o.opened) (λ lister. DocumentsGive (machine_opened release asked) shelf after (Ok (machine lister))) (λ lister is. subst (λ m. DocumentsGive (machine_opened release asked) shelf after (Ok m)) (sym is) o.ensures.opens.0) a.why
+        c.assemble.result.text.items c.assemble.result.status a.text
+    in
+    work_done _ (AskAsm release c.args.max asked) o.opened a.why c.assemble.result o.ensures.opens o.ensures.same text (late_of_work c.assemble.result.status a.why c.assemble.result.text.items c.assemble.ensures.late) a.ran

@@ -2,6 +2,7 @@ use Rattle.std.proofs.Common.{refl}
 use Rattle.std.proofs.KnownBytes.{Keeps-refl}
 use Rattle.std.proofs.lemmas.Result.{err_from_is_err_and}
 use Rattle.std.specs.Prelude.{[]}
+use Rattle.spec_lines.specs.LineFault.{Long}
 use Rattle.spec_command.specs.Commands.{AskCheck}
 use Rattle.mrs_command.specs.Commands.{checks_of}
 use Rattle.release_opening.specs.Counted.{counted_of}
@@ -17,4 +18,4 @@ returns-in_err-counted-clause-fulfils g c = λ input.
 pub returns-clause-fulfils : goal.returns-clause-fulfils
 returns-clause-fulfils g c = λ input.
     let o = c.in_ok-counted in
-    work_done_plainly _ (AskCheck (checks_of c.args.checks)) (counted_of o.counted) c.show_counts-status.result c.plainly.result c.plainly.ensures o.ensures.opens o.ensures.same (late_of_work c.show_counts-status.result [] c.show_counts-status.ensures.late) (c.show_counts-status.ensures.ended input)
+    work_done_plainly _ (AskCheck (checks_of c.args.checks)) (counted_of o.counted) c.show_counts-status.result c.plainly.result c.plainly.ensures c.show_counts-status.ensures.plain o.ensures.opens o.ensures.same (late_of_work c.show_counts-status.result Long [] c.show_counts-status.ensures.late) (c.show_counts-status.ensures.ended input)

@@ -2,6 +2,7 @@ use Rattle.std.proofs.Common.{refl}
 use Rattle.std.proofs.KnownBytes.{Keeps-refl}
 use Rattle.std.proofs.lemmas.Result.{err_from_is_err_and}
 use Rattle.std.specs.Prelude.{[]}
+use Rattle.spec_lines.specs.LineFault.{Long}
 use Rattle.spec_command.specs.Commands.{AskList}
 use Rattle.mrs_command.specs.Commands.{release_of, configured_of}
 use Rattle.mrs_query.proofs.Fulfilling.{late_of_work, work_done_plainly, not_opened}
@@ -16,4 +17,4 @@ returns-in_err-opened-clause-fulfils g c =
 pub returns-clause-fulfils : goal.returns-clause-fulfils
 returns-clause-fulfils g c =
     let o = c.in_ok-opened in
-    work_done_plainly _ (AskList (release_of c.args.release) c.args.bare c.args.max (configured_of c.args.configured)) o.opened c.show_words-status.result c.plainly.result c.plainly.ensures o.ensures.opens o.ensures.same (late_of_work c.show_words-status.result [] c.show_words-status.ensures.late) c.show_words-status.ensures.ran
+    work_done_plainly _ (AskList (release_of c.args.release) c.args.bare c.args.max (configured_of c.args.configured)) o.opened c.show_words-status.result c.plainly.result c.plainly.ensures c.show_words-status.ensures.plain o.ensures.opens o.ensures.same (late_of_work c.show_words-status.result Long [] c.show_words-status.ensures.late) c.show_words-status.ensures.ran
