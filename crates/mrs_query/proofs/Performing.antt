@@ -1,5 +1,7 @@
 -- From what became of what is asked for to what the run did.
-use Rattle.std.proofs.Common.{◌≡◌, ℕ, ℤ, List, [], length, Ok, Err, inl, inr, refl, sym, ap, ◌∙◌, subst}
+use Rattle.std.proofs.Common.{◌≡◌, ℕ, ℤ, List, [], length, Ok, Err, inl, inr, refl, sym, ap, ◌∙◌, subst, arith}
+use Rattle.std.specs.Io.KnownBytes.{Keeps}
+use Rattle.std.proofs.KnownBytes.{Keeps-refl}
 use Rattle.spec_command.specs.Commands.{Request}
 use Rattle.spec_command.specs.Request.{request}
 use Rattle.spec_refutation.specs.Derivation.{Step}
@@ -146,3 +148,25 @@ module _ (words : List (List ℕ)) (s : Scene) (asked : Request) (says : request
     is = opening_text s asked (IsOpenedBy words s) e ended is h.0;
     performs = record { says = asked_says (told_as Long ended) (by_opening s asked ended h.2 e is h.0 h.1); kept = h.3 };
   }
+
+-- words that are refused, where nothing was touched
+pub performs_usage : (words : List (List ℕ)) (s : Scene) (place : ℕ) (ended : Ended) → IsPlainly (status.Usage place) ended → request words ≡ Err place → s.shelf_after ≡ s.shelf → s.input_after ≡ s.input → s.out_after ≡ s.out → Performed words s ended
+performs_usage words s place ended is cause shelf input out =
+    let says : Says words s (Usage place) = record {
+      cause = cause;
+      shelf = ap (λ r. r.faults) shelf;
+      untouched = record { input = input; out = subst (λ w. Keeps s.out.taken w.taken) (sym out) (Keeps-refl s.out.taken); count = ap (λ r. r.faults) out };
+    } in
+    record {
+      why = Long;
+      is = plainly_has (IsOpenedBy words s) Long (status.Usage place) ended tt is;
+      performs = record {
+        says = subst (Says words s) (sym (plainly_told (status.Usage place) ended is)) says;
+        kept = record {
+          documents = ap (λ r. r.documents) shelf;
+          shelf = omega (arith, ap (λ r. r.faults) shelf);
+          input = omega (arith, ap (λ r. r.faults) input);
+          out = omega (arith, ap (λ r. r.faults) out);
+        };
+      };
+    }

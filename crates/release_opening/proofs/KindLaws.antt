@@ -17,28 +17,24 @@ use Rattle.release_opening.proofs.Then.{Spares}
 
 -- ---- more kinds
 
-module _ {A B : Type 0} (kinds more : List DocumentKind) (wider : (kind : DocumentKind) → Contains kinds kind → Contains more kind) where
-  pub error_of_more : (e : OpeningError) → IsOf {A = A} kinds (Err e) → IsOf {A = B} more (Err e)
-  error_of_more (error.NotRead kind) h = wider (kind_of kind) h
-  error_of_more (error.TooLong kind) h = wider (kind_of kind) h
-  error_of_more (error.Refused kind fault) h = wider (kind_of kind) h
-  error_of_more (error.UnknownPin pin) h = tt
-  error_of_more (error.NoneFits cnf log) h = tt
-  error_of_more error.NoMemory h = tt
-
-pub of_more : {A : Type 0} (kinds more : List DocumentKind) → ((kind : DocumentKind) → Contains kinds kind → Contains more kind) → (r : Result A OpeningError) → IsOf kinds r → IsOf more r
-of_more kinds more wider (Ok x) h = tt
-of_more {A} kinds more wider (Err e) h = error_of_more {A} {B = A} kinds more wider e h
+pub error_of_more : (A B : Type 0) (kinds more : List DocumentKind) → ((kind : DocumentKind) → Contains kinds kind → Contains more kind) → (e : OpeningError) → IsOf {A = A} kinds (Err e) → IsOf {A = B} more (Err e)
+error_of_more A B kinds more wider (error.NotRead kind) h = wider (kind_of kind) h
+error_of_more A B kinds more wider (error.TooLong kind) h = wider (kind_of kind) h
+error_of_more A B kinds more wider (error.Refused kind fault) h = wider (kind_of kind) h
+error_of_more A B kinds more wider (error.UnknownPin pin) h = tt
+error_of_more A B kinds more wider (error.NoneFits cnf log) h = tt
+error_of_more A B kinds more wider error.NoMemory h = tt
 
 -- an error of the first kinds, or of the last
-pub of_front : (B : Type 0) {A : Type 0} (front back : List DocumentKind) (e : OpeningError) → IsOf {A = A} front (Err e) → IsOf {A = B} (front ++ back) (Err e)
-of_front B {A} front back e h = error_of_more {A} {B} front (front ++ back) (λ kind on. Contains-append_left front back kind on) e h
+pub of_front : (A B : Type 0) (front back : List DocumentKind) (e : OpeningError) → IsOf {A = A} front (Err e) → IsOf {A = B} (front ++ back) (Err e)
+of_front A B front back e h = error_of_more A B front (front ++ back) (λ kind on. Contains-append_left front back kind on) e h
 
-pub of_back : (B : Type 0) {A : Type 0} (front back : List DocumentKind) (e : OpeningError) → IsOf {A = A} back (Err e) → IsOf {A = B} (front ++ back) (Err e)
-of_back B {A} front back e h = error_of_more {A} {B} back (front ++ back) (λ kind on. Contains-append_right front back kind on) e h
+pub of_back : (A B : Type 0) (front back : List DocumentKind) (e : OpeningError) → IsOf {A = A} back (Err e) → IsOf {A = B} (front ++ back) (Err e)
+of_back A B front back e h = error_of_more A B back (front ++ back) (λ kind on. Contains-append_right front back kind on) e h
 
-pub result_of_back : {A : Type 0} (front back : List DocumentKind) (r : Result A OpeningError) → IsOf back r → IsOf (front ++ back) r
-result_of_back front back r h = of_more back (front ++ back) (λ kind on. Contains-append_right front back kind on) r h
+pub result_of_back : (A : Type 0) (front back : List DocumentKind) (r : Result A OpeningError) → IsOf back r → IsOf (front ++ back) r
+result_of_back A front back (Ok x) h = tt
+result_of_back A front back (Err e) h = of_back A A front back e h
 
 -- ---- one kind
 

@@ -5,7 +5,7 @@ ghost use Rattle.spec_command.specs.Pins as spec;
 ghost use Rattle.spec_features.specs.Features.{EachName};
 ghost use Rattle.mrs_schema.specs.FeatureViews.{features_of, features_in, AreFeatures};
 ghost use Rattle.spec_run.specs.Opening.{configuration_opened, configured};
-ghost use Rattle.spec_run.specs.Kinds.{Features};
+ghost use Rattle.spec_run.specs.Kinds as kinds;
 ghost use Rattle.release_opening.specs.Opens.{Opens, IsOf};
 ghost use Rattle.release_opening.specs.Pinned.{ArePins};
 ghost use Rattle.release_opening.specs.Stages.{Comes};
@@ -32,7 +32,7 @@ pub fn open_configuration<V: Shelf>(
 ) -> Result<OpenedConfiguration, OpeningError>
     requires { length pins ≤ pin_limit }
     ensures opens { Opens (configuration_opened features.now pins.entry) (V.shelving shelf.old) (V.shelving shelf.new) result }
-    ensures named { IsOf (Features ∷ []) result }
+    ensures named { IsOf (kinds.Features ∷ []) result }
     ensures same { (V.shelving shelf.new).documents ≡ (V.shelving shelf.old).documents }
     ensures later { (V.shelving shelf.old).faults ≤ (V.shelving shelf.new).faults }
 {

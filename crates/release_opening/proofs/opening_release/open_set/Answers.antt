@@ -21,4 +21,4 @@ returns-clause-opens g c =
     s.value c.open_machine.result read.same s.is c.open_machine.ensures.named (c.open_machine.ensures.opens [] s.value (record { are = refl; held = tt; count = refl }) s.stands)
 
 pub returns-clause-named : goal.returns-clause-named
-returns-clause-named g c = result_of_back (Insns ∷ []) [] c.open_machine.result c.open_machine.ensures.named
+returns-clause-named g c = result_of_back _ (Insns ∷ []) [] c.open_machine.result c.open_machine.ensures.named
