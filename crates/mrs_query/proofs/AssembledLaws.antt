@@ -7,7 +7,7 @@ use Rattle.spec_run.specs.Work.{Over, Reads}
 use Rattle.spec_run.specs.Assembling.{asm_work}
 use Rattle.spec_run.specs.Ran.{Ran}
 use Rattle.spec_run.specs.Scene.{Took}
-use Rattle.list_words.specs.Listers.{machine}
+use Rattle.list_words.specs.Listers.{machine, IsOneRelease}
 use Rattle.list_words.specs.declared.lister.Lister.{Lister}
 use Rattle.asm_stream.specs.declared.ended.Ended as asm
 use Rattle.asm_stream.specs.declared.ended.Ended.TheVariants as how
@@ -36,7 +36,7 @@ unmemoried r0 r1 w0 w1 over fault h =
       out_count = h.out_count;
     }
 
-module _ (lister : Lister) (limit : ℕ) (r0 r1 : Reading) (w0 w1 : Writing) (ended : Ended) where
+module _ (lister : Lister) (one : IsOneRelease lister) (limit : ℕ) (r0 r1 : Reading) (w0 w1 : Writing) (ended : Ended) where
   abbrev RanAs : run.End → Type 0
   RanAs end = Ran r0 r1 w0 w1 (Reads (asm_work (machine lister) limit)) end
 
@@ -44,7 +44,7 @@ module _ (lister : Lister) (limit : ℕ) (r0 r1 : Reading) (w0 w1 : Writing) (en
   So = AssembledAs (machine lister) limit r0 r1 w0 w1 ended
 
   plain_so : (status : Status) (end : run.End) → IsPlainly status ended → IsPlain status → end ≡ bare_end status → RanAs end → So
-  plain_so status end is plain same ran = record { why = Long; ran = subst RanAs (same ∙ sym (plainly_told status ended is)) ran; text = plainly_has (λ l. machine l ≡ machine lister) Long status ended plain is }
+  plain_so status end is plain same ran = record { why = Long; ran = subst RanAs (same ∙ sym (plainly_told status ended is)) ran; text = plainly_has (λ l. IsOneRelease l × (machine l ≡ machine lister)) Long status ended plain is }
 
   -- a line that is refused, by the number and the fault that are told of it
   line_is : (number : ℕ) (bad : BadLine) → bad.number ≡ number → refusal lister bad ≡ run.Question (run.Line number bad.fault.at bad.fault.why (reason (machine lister) bad.fault.why))
@@ -60,7 +60,7 @@ module _ (lister : Lister) (limit : ℕ) (r0 r1 : Reading) (w0 w1 : Writing) (en
         | inr told ↦ record {
           why = bad.fault.why;
           ran = subst RanAs (line_is number bad h.is.1.number_is ∙ sym told.is) ran;
-          text = has_by (λ l. l ≡ lister) (λ l. machine l ≡ machine lister) (λ l is. ap machine is) bad.fault.why ended.text.items ended.status told.has;
+          text = has_by (λ l. l ≡ lister) (λ l. IsOneRelease l × (machine l ≡ machine lister)) (λ l is. (subst IsOneRelease (sym is) one, ap machine is)) bad.fault.why ended.text.items ended.status told.has;
         }
       ]
   assembly_as how.ReadFault h t = plain_so (status.ReadFault which.Input) h.end t tt h.is h.ran

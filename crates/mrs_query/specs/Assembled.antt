@@ -10,7 +10,7 @@ use Rattle.spec_lines.specs.LineFault as spec
 use Rattle.spec_lines.specs.LineFault.{LineWhy}
 use Rattle.spec_lines.specs.Reasons.{reason}
 use Rattle.list_words.specs.Faults.{IsFault}
-use Rattle.list_words.specs.Listers.{machine}
+use Rattle.list_words.specs.Listers.{machine, IsOneRelease}
 use Rattle.list_words.specs.declared.lister.Lister.{Lister}
 use Rattle.list_words.specs.declared.line_fault.LineFault.{LineFault}
 use Rattle.asm_stream.specs.declared.ended.Ended as asm
@@ -46,4 +46,4 @@ TellsAssembly lister how.NoMemory ended = IsPlainly status.NoMemory ended
 pub record AssembledAs (opened : Machine) (limit : ℕ) (r0 r1 : Reading) (w0 w1 : Writing) (ended : Ended) : Type 0 where
   pub why : LineWhy
   pub ran : Ran r0 r1 w0 w1 (Reads (asm_work opened limit)) (told_as why ended)
-  pub text : HasText (λ lister. machine lister ≡ opened) ended.status why ended.text.items
+  pub text : HasText (λ lister. IsOneRelease lister × (machine lister ≡ opened)) ended.status why ended.text.items

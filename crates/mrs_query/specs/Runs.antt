@@ -13,7 +13,7 @@ use Rattle.spec_run.specs.Answers.{Performs, Answers}
 use Rattle.spec_lines.specs.LineFault.{LineWhy}
 use Rattle.spec_lines.specs.Reasons as reasons
 use Rattle.list_words.specs.Faults.{IsWhy}
-use Rattle.list_words.specs.Listers.{machine}
+use Rattle.list_words.specs.Listers.{machine, IsOneRelease}
 use Rattle.list_words.specs.declared.lister.Lister.{Lister}
 use Rattle.list_words.specs.declared.line_fault.LineFault.{LineFault}
 use Rattle.mrs_query.specs.declared.status.Status.{Status}
@@ -52,9 +52,9 @@ IsPlain status = ⊤
 abbrev pub told_as : LineWhy → Ended → End
 told_as why ended = end_of ended.status why ended.text.items
 
--- what is asked for are lines to be assembled, and the lister's machine is the one that is opened for them
+-- what is asked for are lines to be assembled, and the lister is of one release, whose machine is the one that is opened for them
 abbrev pub IsOpenedFor : Request → Scene → Lister → Type 0
-IsOpenedFor (AskAsm release limit configured) s lister = DocumentsGive (machine_opened release configured) s.shelf s.shelf_after (Ok (machine lister))
+IsOpenedFor (AskAsm release limit configured) s lister = IsOneRelease lister × DocumentsGive (machine_opened release configured) s.shelf s.shelf_after (Ok (machine lister))
 IsOpenedFor asked s lister = ⊥
 
 abbrev pub IsOpenedBy : List (List ℕ) → Scene → Lister → Type 0

@@ -3,7 +3,7 @@ use Rattle.std.proofs.KnownBytes.{Keeps-refl}
 use Rattle.std.proofs.lemmas.Result.{err_from_is_err_and}
 use Rattle.spec_command.specs.Commands.{AskAsm}
 use Rattle.mrs_command.specs.Commands.{release_of, configured_of}
-use Rattle.list_words.specs.Listers.{machine}
+use Rattle.list_words.specs.Listers.{machine, IsOneRelease}
 use Rattle.spec_run.specs.Opening.{machine_opened}
 use Rattle.spec_run.specs.Opens.{DocumentsGive}
 use Rattle.mrs_query.proofs.Plainly.{has_by}
@@ -25,7 +25,7 @@ returns-clause-fulfils g c =
     let after = g.V.Shelf.shelving c.open_release.new.shelf in
     let a = c.assemble.ensures.assembled in
     let text =
-        has_by (λ lister. machine lister ≡ o.opened) (λ lister. DocumentsGive (machine_opened release asked) shelf after (Ok (machine lister))) (λ lister is. subst (λ m. DocumentsGive (machine_opened release asked) shelf after (Ok m)) (sym is) o.ensures.opens.0) a.why
+        has_by (λ lister. IsOneRelease lister × (machine lister ≡ o.opened)) (λ lister. IsOneRelease lister × DocumentsGive (machine_opened release asked) shelf after (Ok (machine lister))) (λ lister is. (is.0, subst (λ m. DocumentsGive (machine_opened release asked) shelf after (Ok m)) (sym is.1) o.ensures.opens.0)) a.why
         c.assemble.result.text.items c.assemble.result.status a.text
     in
     work_done _ (AskAsm release c.args.max asked) o.opened a.why c.assemble.result o.ensures.opens o.ensures.same text (late_of_work c.assemble.result.status a.why c.assemble.result.text.items c.assemble.ensures.late) a.ran
