@@ -12,7 +12,7 @@ use Rattle.asm_stream.specs.declared.stop.Stop.TheVariants as stop
 use Rattle.asm_stream.specs.Lines.{IsBad}
 
 abbrev pub refusal : Lister → BadLine → run.End
-refusal lister bad = run.Question (run.Line bad.number bad.fault.at (reason (machine lister) bad.fault.why))
+refusal lister bad = run.Question (run.Line bad.number bad.fault.at bad.fault.why (reason (machine lister) bad.fault.why))
 
 -- a line that is refused is told with the reason's text
 abbrev pub EndsAs : Lister → Ended → run.End → Type 0

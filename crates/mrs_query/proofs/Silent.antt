@@ -1,5 +1,7 @@
 -- Statuses of which nothing is said.
-use Rattle.std.proofs.Common.{◌≡◌, ℕ, List, [], ◌∷◌, length, ap, sym, ◌∙◌, arith}
+use Rattle.std.proofs.Common.{◌≡◌, ℕ, List, [], ◌∷◌, length, refl, ap, sym, ◌∙◌, arith}
+use Rattle.spec_lines.specs.LineFault.{LineWhy, Long}
+use Rattle.list_words.specs.declared.lister.Lister.{Lister}
 use Rattle.spec_run.specs.End.{message}
 use Rattle.mrs_query.specs.declared.status.Status.{Status}
 use Rattle.mrs_query.specs.declared.status.Status.TheVariants as status
@@ -14,17 +16,33 @@ not_empty x xs h = let n : length (x ∷ xs) ≡ 0 = ap length h in absurd (omeg
 log_is_said : (steps : ℕ) (text : List ℕ) → IsLogText steps text → text ≡ [] → ⊥
 log_is_said steps text h none = not_empty 112 _ (sym h.refutation.text_is ∙ none)
 
--- whatever its text is, nothing is said of a status of which nothing is said with some text that it may have
-pub silent : (status : Status) (text other : List ℕ) → HasText status text → message (end_of status text) ≡ [] → message (end_of status other) ≡ []
-silent status.Done text other has none = none
-silent (status.Ragged rest) text other has none = none
-silent (status.Usage place) text other has none = none
-silent (status.Document which fault) text other has none = none
-silent (status.Refuted steps) text other has none = absurd (log_is_said steps text has none)
-silent (status.Question (question.NoFeature pin)) text other has none = none
-silent (status.Question question.NoLeaf) text other has none = none
-silent (status.Question (question.Line line fault)) text other has none = absurd (not_empty 108 _ none)
-silent (status.ReadFault which) text other has none = none
-silent status.WriteFault text other has none = none
-silent (status.Limit which) text other has none = none
-silent status.NoMemory text other has none = none
+-- whatever goes with it, nothing is said of a status of which nothing is said with something that may go with it
+module _ (by : Lister → Type 0) (why : LineWhy) (text other : List ℕ) where
+  pub silent : (status : Status) → HasText by status why text → message (end_of status why text) ≡ [] → message (end_of status Long other) ≡ []
+  silent status.Done has none = none
+  silent (status.Ragged rest) has none = none
+  silent (status.Usage place) has none = none
+  silent (status.Document which fault) has none = none
+  silent (status.Refuted steps) has none = absurd (log_is_said steps text has none)
+  silent (status.Question (question.NoFeature pin)) has none = none
+  silent (status.Question question.NoLeaf) has none = none
+  silent (status.Question (question.Line line fault)) has none = absurd (not_empty 108 _ none)
+  silent (status.ReadFault which) has none = none
+  silent status.WriteFault has none = none
+  silent (status.Limit which) has none = none
+  silent status.NoMemory has none = none
+
+-- what is said of a status does not depend on how a line is told to be refused
+pub said_alike : (status : Status) (why : LineWhy) (text : List ℕ) → message (end_of status Long text) ≡ message (end_of status why text)
+said_alike status.Done why text = refl
+said_alike (status.Ragged rest) why text = refl
+said_alike (status.Usage place) why text = refl
+said_alike (status.Document which fault) why text = refl
+said_alike (status.Refuted steps) why text = refl
+said_alike (status.Question (question.NoFeature pin)) why text = refl
+said_alike (status.Question question.NoLeaf) why text = refl
+said_alike (status.Question (question.Line line fault)) why text = refl
+said_alike (status.ReadFault which) why text = refl
+said_alike status.WriteFault why text = refl
+said_alike (status.Limit which) why text = refl
+said_alike status.NoMemory why text = refl

@@ -1,3 +1,4 @@
+pub mod Named
 pub mod End
 pub mod Plainly
 pub mod Once

@@ -8,6 +8,7 @@ use Rattle.release_opening.specs.declared.opening_error.OpeningError.TheVariants
 use Rattle.mrs_query.specs.declared.status.Status.TheVariants as status
 use Rattle.mrs_query.specs.declared.status.QuestionFault.TheVariants as question
 use Rattle.mrs_query.specs.declared.ended.Ended.{Ended}
+use Rattle.mrs_query.specs.Named.{which_by}
 use Rattle.mrs_query.specs.Plainly.{IsPlainly}
 
 -- a log can be printed
@@ -26,9 +27,9 @@ TellsRefutation variables clauses log ended = IsPlainly status.NoMemory ended �
 
 -- each error has its status
 abbrev pub Tells : OpeningError → Ended → Type 0
-Tells (error.NotRead which) ended = IsPlainly (status.ReadFault which) ended
-Tells (error.TooLong which) ended = IsPlainly (status.Limit which) ended
-Tells (error.Refused which fault) ended = IsPlainly (status.Document which fault) ended
+Tells (error.NotRead kind) ended = IsPlainly (status.ReadFault (which_by kind)) ended
+Tells (error.TooLong kind) ended = IsPlainly (status.Limit (which_by kind)) ended
+Tells (error.Refused kind fault) ended = IsPlainly (status.Document (which_by kind) fault) ended
 Tells (error.UnknownPin pin) ended = IsPlainly (status.Question (question.NoFeature pin)) ended
 Tells (error.NoneFits cnf log) ended = TellsRefutation cnf.0 cnf.1 log ended
 Tells error.NoMemory ended = IsPlainly status.NoMemory ended

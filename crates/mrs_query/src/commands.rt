@@ -2,9 +2,9 @@
 ghost use Rattle.std.specs.Prelude.{◌≡◌, [], IfOk, MatchResult};
 ghost use Rattle.mrs_command.specs.Commands.{asked_of, IsLimited, ArePinsFew};
 ghost use Rattle.spec_run.specs.End.{IsEarly};
-ghost use Rattle.mrs_query.specs.End.{end_of};
+ghost use Rattle.spec_run.specs.Commands.{IsOverStream};
+ghost use Rattle.mrs_query.specs.End.{bare_end};
 ghost use Rattle.mrs_query.specs.Fulfilled.{Fulfils};
-ghost use Rattle.mrs_query.specs.Runs.{HasText};
 
 mod asm;
 mod check;
@@ -37,9 +37,9 @@ pub(crate) fn fulfil<V: Shelf, S: Source, K: Sink>(
       out = K.writing out.old;
       out_after = K.writing out.new;
     }) result }
-    ensures text { IfOk result (λ ended. HasText ended.status ended.text.items) }
-    ensures early { MatchResult result (λ ended. IsEarly (end_of ended.status []) → (input.new ≡ input.old) × (out.new ≡ out.old))
+    ensures early { MatchResult result (λ ended. IsEarly (bare_end ended.status) → (input.new ≡ input.old) × (out.new ≡ out.old))
         (λ _. (input.new ≡ input.old) × (out.new ≡ out.old)) }
+    ensures unread { ¬ IsOverStream (asked_of asked.entry) → input.new ≡ input.old }
 {
     match asked {
         Request::List {

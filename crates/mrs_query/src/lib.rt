@@ -9,7 +9,9 @@ mod parts;
 mod refused;
 mod status;
 mod top;
+mod which;
 
-pub use release_opening::{DocFault, Which};
+pub use release_opening::DocFault;
 pub use status::{QuestionFault, Status};
 pub use top::run;
+pub use which::Which;

@@ -1,10 +1,11 @@
 //! The text of a status, for the sink of messages.
 ghost use Rattle.std.specs.Prelude.{◌≡◌, ◌≤◌, [], ◌∷◌, ◌++◌, map, codes};
+ghost use Rattle.spec_lines.specs.LineFault.{Long};
 ghost use Rattle.spec_run.specs.End as run;
 ghost use Rattle.spec_run.specs.End.{message, why_text};
 ghost use Rattle.spec_run.specs.Scene.{TookText};
 ghost use Rattle.mrs_walk.specs.Faults as schema;
-ghost use Rattle.release_opening.specs.Documents.{which_of};
+ghost use Rattle.mrs_query.specs.Named.{which_of};
 ghost use Rattle.mrs_query.specs.Runs.{told_as};
 ghost use Rattle.mrs_query.specs.Texts.{joined};
 ghost use Rattle.mrs_query.specs.Wrote.{Wrote, member_of};
@@ -12,10 +13,11 @@ ghost use Rattle.mrs_query.specs.Wrote.{Wrote, member_of};
 use crate::ended::Ended;
 use crate::parts::write_parts;
 use crate::status::{QuestionFault, Status};
+use crate::which::Which;
 use itoa::Buffer;
 use mrs_io::{Failed, Sink, write_whole};
 use mrs_schema::{SchemaFault, Why};
-use release_opening::{DocFault, Which};
+use release_opening::DocFault;
 
 /// What a status names.
 fn which_text(which: Which) -> &'static [u8]
@@ -158,7 +160,7 @@ fn write_no_feature<E: Sink>(err: &mut E, pin: u32) -> Result<(), Failed>
 
 /// Writes the text of a refused line: its number, the place of a byte in it, and the reason.
 fn write_line<E: Sink>(err: &mut E, line: u64, at: u32, reason: &[u8]) -> Result<(), Failed>
-    ensures { Wrote (E.writing err.old) (E.writing err.new) (message (run.Question (run.Line line at reason.now))) result }
+    ensures { Wrote (E.writing err.old) (E.writing err.new) (message (run.Question (run.Line line at Long reason.now))) result }
 {
     write_parts(
         err,
@@ -174,10 +176,10 @@ fn write_line<E: Sink>(err: &mut E, line: u64, at: u32, reason: &[u8]) -> Result
     )
 }
 
-/// Writes the text of an end that has one.
+/// Writes the text of an end that has one; it is the same however a line is told to be refused.
 fn write_message<E: Sink>(err: &mut E, ended: &Ended) -> Result<(), Failed>
-    ensures text { Wrote (E.writing err.old) (E.writing err.new) (message (told_as ended.now)) result }
-    ensures quiet { message (told_as ended.now) ≡ [] → err.new ≡ err.old }
+    ensures text { Wrote (E.writing err.old) (E.writing err.new) (message (told_as Long ended.now)) result }
+    ensures quiet { message (told_as Long ended.now) ≡ [] → err.new ≡ err.old }
 {
     match &ended.status {
         Status::Done | Status::Ragged { rest: _ } | Status::NoMemory => Ok(()),
@@ -213,9 +215,9 @@ fn write_message<E: Sink>(err: &mut E, ended: &Ended) -> Result<(), Failed>
 /// Writes the text of an end. A sink that fails has taken a part of it.
 pub(crate) fn tell<E: Sink>(err: &mut E, ended: &Ended)
     ensures text { TookText (E.writing err.old)
-        (E.writing err.new) (message (told_as ended.now)) }
+        (E.writing err.new) (message (told_as Long ended.now)) }
     ensures count { (E.writing err.old).faults ≤ (E.writing err.new).faults }
-    ensures quiet { message (told_as ended.now) ≡ [] → err.new ≡ err.old }
+    ensures quiet { message (told_as Long ended.now) ≡ [] → err.new ≡ err.old }
 {
     let _ = write_message(err, ended);
 }

@@ -1,10 +1,12 @@
 //! How a run ends.
 ghost use Rattle.std.specs.Prelude.{◌≡◌, ℕ, List};
+ghost use Rattle.spec_lines.specs.LineFault.{LineWhy};
 ghost use Rattle.spec_run.specs.End.{exit_number};
 ghost use Rattle.mrs_query.specs.End.{end_of};
 
 use list_words::LineFault;
-use release_opening::{DocFault, Which};
+use crate::which::Which;
+use release_opening::DocFault;
 
 /// Why a question has no answer.
 #[derive(Clone, Copy, Debug, PartialEq, Eq)]
@@ -45,7 +47,7 @@ pub enum Status {
 impl Status {
     /// The number with which the program ends.
     pub fn exit_number(&self) -> u8
-        ensures { (text : List ℕ) → result ≡ exit_number (end_of self.now text) }
+        ensures { (why : LineWhy) (text : List ℕ) → result ≡ exit_number (end_of self.now why text) }
     {
         match self {
             Status::Done => 0,

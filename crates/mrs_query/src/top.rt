@@ -1,9 +1,11 @@
 //! The top call.
 ghost use Rattle.std.specs.Prelude.{◌≡◌, ℕ, List, map, string_bytes, []};
 ghost use Rattle.spec_run.specs.End.{message, IsEarly, IsUsage};
-ghost use Rattle.spec_run.specs.Answers.{Performs};
-ghost use Rattle.mrs_query.specs.End.{end_of};
-ghost use Rattle.mrs_query.specs.Runs.{HasText, told_as, Runs};
+ghost use Rattle.spec_run.specs.Commands.{ReadTheStream};
+ghost use Rattle.spec_lines.specs.LineFault.{LineWhy};
+ghost use Rattle.list_words.specs.declared.lister.Lister.{Lister};
+ghost use Rattle.mrs_query.specs.End.{end_of, bare_end};
+ghost use Rattle.mrs_query.specs.Runs.{HasText, Performed, Runs};
 
 use crate::Status;
 use crate::commands::fulfil;
@@ -24,17 +26,17 @@ fn perform<V: Shelf, S: Source, K: Sink>(
     input: &mut S,
     out: &mut K,
 ) -> Ended
-    ensures performs { Performs (map string_bytes words.now) (record {
+    ensures performs { Performed (map string_bytes words.now) (record {
       shelf = V.shelving shelf.old;
       shelf_after = V.shelving shelf.new;
       input = S.reading input.old;
       input_after = S.reading input.new;
       out = K.writing out.old;
       out_after = K.writing out.new;
-    }) (told_as result) }
-    ensures text { HasText result.status result.text.items }
-    ensures early { IsEarly (end_of result.status []) → (input.new ≡ input.old) × (out.new ≡ out.old) }
-    ensures misused { IsUsage (end_of result.status []) → shelf.new ≡ shelf.old }
+    }) result }
+    ensures early { IsEarly (bare_end result.status) → (input.new ≡ input.old) × (out.new ≡ out.old) }
+    ensures unread { ¬ ReadTheStream (map string_bytes words.now) → input.new ≡ input.old }
+    ensures misused { IsUsage (bare_end result.status) → shelf.new ≡ shelf.old }
 {
     let asked = match read_request(words) {
         Ok(asked) => asked,
@@ -70,10 +72,12 @@ pub fn run<R: Threads + Sync, V: Shelf, S: Source, K: Sink, E: Sink>(
       out_after = K.writing out.new;
     }) (E.writing err.old) (E.writing err.new) result }
     // Before the stream nothing is read from it and nothing goes out; refused words do not touch the shelf.
-    ensures early { IsEarly (end_of result []) → (input.new ≡ input.old) × (out.new ≡ out.old) }
-    ensures misused { IsUsage (end_of result []) → shelf.new ≡ shelf.old }
+    ensures early { IsEarly (bare_end result) → (input.new ≡ input.old) × (out.new ≡ out.old) }
+    ensures misused { IsUsage (bare_end result) → shelf.new ≡ shelf.old }
+    // Whatever its status, a command that does not read the stream leaves the source as it was.
+    ensures unread { ¬ ReadTheStream (map string_bytes words.now) → input.new ≡ input.old }
     // Where there is nothing to say, `err` is not touched.
-    ensures quiet { (text : List ℕ) → HasText result text → message (end_of result text) ≡ [] → err.new ≡ err.old }
+    ensures quiet { (by : Lister → Type 0) (why : LineWhy) (text : List ℕ) → HasText by result why text → message (end_of result why text) ≡ [] → err.new ≡ err.old }
 {
     let _ = rt;
     let ended = perform(alloc, words, shelf, input, out);

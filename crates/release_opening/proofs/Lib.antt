@@ -2,6 +2,7 @@ pub mod ConfigurationLaws
 pub mod JsonTexts
 pub mod Verdicts
 pub mod Then
+pub mod KindLaws
 pub mod DocumentLaws
 pub mod PinLaws
 pub mod ChoiceLaws

@@ -3,6 +3,7 @@ use Rattle.std.specs.Prelude.{◌≡◌, ℕ, List, Option, Some, None, Result, 
 use Rattle.serde_json.specs.Data.{Data}
 use Rattle.serde_json.specs.View.{view}
 use Rattle.serde_json.specs.declared.value.Value.{Value}
+use Rattle.spec_run.specs.Kinds.{Log}
 use Rattle.spec_run.specs.End as run
 use Rattle.spec_run.specs.Opening as opening
 use Rattle.spec_run.specs.Logs as logs
@@ -19,5 +20,5 @@ Parsed value (Err unread.NoMemory) = ⊤
 -- the log of a text
 abbrev pub ReadLog : List ℕ → Result logs.Checked Unread → Type 0
 ReadLog text (Ok log) = logs.of_text text ≡ Ok log
-ReadLog text (Err (unread.Refused fault)) = logs.of_text text ≡ Err (opening.Refused run.Log (fault_of fault))
+ReadLog text (Err (unread.Refused fault)) = logs.of_text text ≡ Err (opening.Refused Log (fault_of fault))
 ReadLog text (Err unread.NoMemory) = ⊤

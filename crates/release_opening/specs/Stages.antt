@@ -14,7 +14,7 @@ use Rattle.mrs_arena.specs.Placed.{IsTree, AreHeld, paths_of}
 use Rattle.mrs_arena.specs.AliasPaths.{aliases_by}
 use Rattle.features_reader.specs.FeatureViews.{features_of, features_in, AreFeatures}
 use Rattle.features_reader.specs.declared.features.Features.{Features}
-use Rattle.spec_run.specs.End as run
+use Rattle.spec_run.specs.Kinds.{DocumentKind}
 use Rattle.spec_run.specs.Opening as opening
 use Rattle.release_opening.specs.declared.unread.Unread.{Unread}
 use Rattle.release_opening.specs.declared.unread.Unread.TheVariants as unread
@@ -34,10 +34,10 @@ Tells told for (Ok b) = Stands told for b
 Tells told for (Err error) = told (Err error)
 
 -- what the walk over a value gives, unless memory ran out
-abbrev pub ReadsAs : {A : Type 0} → run.Which → (Data → Result A Fault) → Option Data → Result A Unread → Type 0
-ReadsAs which walk value (Ok x) = opening.by_value which walk value ≡ Ok x
-ReadsAs which walk value (Err (unread.Refused fault)) = opening.by_value which walk value ≡ Err (opening.Refused which (fault_of fault))
-ReadsAs which walk value (Err unread.NoMemory) = ⊤
+abbrev pub ReadsAs : {A : Type 0} → DocumentKind → (Data → Result A Fault) → Option Data → Result A Unread → Type 0
+ReadsAs kind walk value (Ok x) = opening.by_value kind walk value ≡ Ok x
+ReadsAs kind walk value (Err (unread.Refused fault)) = opening.by_value kind walk value ≡ Err (opening.Refused kind (fault_of fault))
+ReadsAs kind walk value (Err unread.NoMemory) = ⊤
 
 -- an arena for a set, with the names behind the walk
 pub record IsArenaFor (names : List (List ℕ)) (read : Node × Counts) (a : ArenaParts) : Type 0 where

@@ -1,8 +1,9 @@
 //! Documents are opened, and what stands in them is counted.
-ghost use Rattle.std.specs.Prelude.{◌≡◌, ◌≤◌, Bool, is_some, option_map};
+ghost use Rattle.std.specs.Prelude.{◌≡◌, ◌≤◌, option_map};
 ghost use Rattle.std.specs.Result.{result_map_both};
 ghost use Rattle.spec_run.specs.Checking.{set_counted, features_counted, checks_opened};
-ghost use Rattle.spec_run.specs.Commands.{of_checks};
+ghost use Rattle.spec_run.specs.Kinds.{Insns, Features, named};
+ghost use Rattle.spec_run.specs.Commands.{kinds_of_checks};
 ghost use Rattle.mrs_command.specs.Commands.{checks_of};
 ghost use Rattle.release_opening.specs.Opens.{Opens, IsOf};
 ghost use Rattle.release_opening.specs.Counted.{set_of, features_of, counted_of};
@@ -24,7 +25,7 @@ pub fn open_checks<V: Shelf>(
     asked: Checks<'_>,
 ) -> Result<Counted, OpeningError>
     ensures opens { Opens (checks_opened (checks_of asked.entry)) (V.shelving shelf.old) (V.shelving shelf.new) (result_map_both counted_of (λ error. error) result) }
-    ensures named { IsOf (of_checks (is_some asked.entry.insns) (is_some asked.entry.features)) result }
+    ensures named { IsOf (kinds_of_checks (checks_of asked.entry)) result }
     ensures same { (V.shelving shelf.new).documents ≡ (V.shelving shelf.old).documents }
     ensures later { (V.shelving shelf.old).faults ≤ (V.shelving shelf.new).faults }
 {
@@ -40,7 +41,7 @@ fn count_set<V: Shelf>(
     asked: Checks<'_>,
 ) -> Result<(Option<SetCounts>, Names), OpeningError>
     ensures opens { Opens (λ docs. set_counted (checks_of asked.entry) docs (checks_of asked.entry).insns) (V.shelving shelf.old) (V.shelving shelf.new) (result_map_both (λ found. (option_map set_of found.0, found.1)) (λ error. error) result) }
-    ensures named { (features : Bool) → IsOf (of_checks (is_some asked.entry.insns) features) result }
+    ensures named { IsOf (named Insns (checks_of asked.entry).insns) result }
     ensures same { (V.shelving shelf.new).documents ≡ (V.shelving shelf.old).documents }
     ensures later { (V.shelving shelf.old).faults ≤ (V.shelving shelf.new).faults }
 {
@@ -61,7 +62,7 @@ fn count_features<V: Shelf>(
     names: &mut Names,
 ) -> Result<Option<FeatureCounts>, OpeningError>
     ensures opens { Opens (λ docs. features_counted names.old docs (option_map (λ n. n.now) name.entry)) (V.shelving shelf.old) (V.shelving shelf.new) (result_map_both (option_map features_of) (λ error. error) result) }
-    ensures named { (insns : Bool) → IsOf (of_checks insns (is_some name.entry)) result }
+    ensures named { IsOf (named Features (option_map (λ n. n.now) name.entry)) result }
     ensures same { (V.shelving shelf.new).documents ≡ (V.shelving shelf.old).documents }
     ensures later { (V.shelving shelf.old).faults ≤ (V.shelving shelf.new).faults }
 {

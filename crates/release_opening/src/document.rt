@@ -2,13 +2,12 @@
 
 use mrs_schema::SchemaFault;
 
-/// What is read: the Instructions document, the Features document, the log, or the stream, which is no document.
-#[derive(Clone, Copy, Debug, PartialEq, Eq)]
-pub enum Which {
+/// The kinds of documents: the Instructions document, the Features document, and the log.
+#[derive(Clone, Copy)]
+pub enum DocumentKind {
     Insns,
     Features,
     Log,
-    Input,
 }
 
 /// Why a document is refused.

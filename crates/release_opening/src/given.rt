@@ -1,9 +1,10 @@
 //! The features that are given: those of a document, or those that pins name.
-ghost use Rattle.std.specs.Prelude.{◌≡◌, ◌≤◌, Bool, List, length, is_some, option_map, map, IfOk, true};
+ghost use Rattle.std.specs.Prelude.{◌≡◌, ◌≤◌, List, length, option_map, map, IfOk};
 ghost use Rattle.mrs_names.specs.Texts.{IsExtended};
 ghost use Rattle.spec_command.specs.Commands.{pin_limit};
 ghost use Rattle.spec_command.specs.Pins as spec;
-ghost use Rattle.spec_run.specs.End as run;
+ghost use Rattle.spec_run.specs.Kinds as kinds;
+ghost use Rattle.spec_run.specs.Kinds.{named};
 ghost use Rattle.spec_features.specs.Features.{booleans_alone};
 ghost use Rattle.spec_run.specs.Opening.{features_given, pinned};
 ghost use Rattle.release_opening.specs.Opens.{Opens, IsOf};
@@ -30,7 +31,7 @@ pub(crate) fn give_features<V: Shelf>(
     requires { length pins.now ≤ pin_limit }
     ensures opens { (asked : List spec.Pin) → ArePins names.old pins.now asked
         → Tells (Opens (features_given (option_map (λ name. name.now) features.entry) asked names.old) (V.shelving shelf.old) (V.shelving shelf.new)) (AreTheirs names.new) result }
-    ensures named { (asked : run.Which → Bool) → (is_some features.entry ≡ true → asked run.Features ≡ true) → IsOf asked result }
+    ensures named { IsOf (named kinds.Features (option_map (λ name. name.now) features.entry)) result }
     ensures kept { IsExtended names.old names.new }
     ensures same { (V.shelving shelf.new).documents ≡ (V.shelving shelf.old).documents }
     ensures later { (V.shelving shelf.old).faults ≤ (V.shelving shelf.new).faults }

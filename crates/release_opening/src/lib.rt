@@ -27,7 +27,7 @@ mod unread;
 pub use checking::open_checks;
 pub use configuration::OpenedConfiguration;
 pub use counted::{Counted, FeatureCounts, SetCounts};
-pub use document::{DocFault, Which};
+pub use document::{DocFault, DocumentKind};
 pub use opened::Opened;
 pub use opened_log::OpenedLog;
 pub use opening_configuration::open_configuration;

@@ -1,11 +1,11 @@
 //! The configuration in use of the features of a document is opened.
-ghost use Rattle.std.specs.Prelude.{◌≡◌, ◌≤◌, ◌<◌, List, length, true, false};
+ghost use Rattle.std.specs.Prelude.{◌≡◌, ◌≤◌, ◌<◌, List, [], ◌∷◌, length};
 ghost use Rattle.spec_command.specs.Commands.{pin_limit};
 ghost use Rattle.spec_command.specs.Pins as spec;
 ghost use Rattle.spec_features.specs.Features.{EachName};
 ghost use Rattle.features_reader.specs.FeatureViews.{features_of, features_in, AreFeatures};
 ghost use Rattle.spec_run.specs.Opening.{configuration_opened, configured};
-ghost use Rattle.spec_run.specs.Commands.{of_checks};
+ghost use Rattle.spec_run.specs.Kinds as kinds;
 ghost use Rattle.release_opening.specs.Opens.{Opens, IsOf};
 ghost use Rattle.release_opening.specs.Pinned.{ArePins};
 ghost use Rattle.release_opening.specs.Stages.{Comes};
@@ -32,7 +32,7 @@ pub fn open_configuration<V: Shelf>(
 ) -> Result<OpenedConfiguration, OpeningError>
     requires { length pins ≤ pin_limit }
     ensures opens { Opens (configuration_opened features.now pins.entry) (V.shelving shelf.old) (V.shelving shelf.new) result }
-    ensures named { IsOf (of_checks false true) result }
+    ensures named { IsOf (kinds.Features ∷ []) result }
     ensures same { (V.shelving shelf.new).documents ≡ (V.shelving shelf.old).documents }
     ensures later { (V.shelving shelf.old).faults ≤ (V.shelving shelf.new).faults }
 {

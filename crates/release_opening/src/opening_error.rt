@@ -1,6 +1,6 @@
 //! Why what a command names is not opened.
 
-use crate::document::{DocFault, Which};
+use crate::document::{DocFault, DocumentKind};
 use feat_proof::{Cnf, Log};
 use insn_tree::NoMemory;
 
@@ -8,11 +8,11 @@ use insn_tree::NoMemory;
 #[derive(Drop)]
 pub enum OpeningError {
     /// The shelf failed, or it holds no such document.
-    NotRead { which: Which },
+    NotRead { kind: DocumentKind },
     /// A document is longer than its limit.
-    TooLong { which: Which },
+    TooLong { kind: DocumentKind },
     /// A document is refused.
-    Refused { which: Which, fault: DocFault },
+    Refused { kind: DocumentKind, fault: DocFault },
     /// The pin, counted from 0, that is the first to name no boolean parameter.
     UnknownPin { pin: u32 },
     /// No configuration fits: the clauses of features and pins, and a log that refutes them.

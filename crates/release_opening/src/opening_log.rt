@@ -1,11 +1,11 @@
 //! A log is opened: it is fetched, and read by its text.
-ghost use Rattle.std.specs.Prelude.{◌≡◌, ◌≤◌};
+ghost use Rattle.std.specs.Prelude.{◌≡◌, ◌≤◌, [], ◌∷◌};
 ghost use Rattle.spec_run.specs.Logs.{log_opened};
-ghost use Rattle.spec_run.specs.Commands.{is_log};
+ghost use Rattle.spec_run.specs.Kinds.{Log};
 ghost use Rattle.release_opening.specs.Opens.{Opens, IsOf};
 ghost use Rattle.release_opening.specs.Reads.{ReadLog};
 
-use crate::document::{DocFault, Which};
+use crate::document::{DocFault, DocumentKind};
 use crate::fetching::fetch_document;
 use crate::opened_log::OpenedLog;
 use crate::opening_error::OpeningError;
@@ -21,15 +21,15 @@ pub fn open_log<V: Shelf>(
     name: &str,
 ) -> Result<OpenedLog, OpeningError>
     ensures opens { Opens (log_opened name.now) (V.shelving shelf.old) (V.shelving shelf.new) result }
-    ensures named { IsOf is_log result }
+    ensures named { IsOf (Log ∷ []) result }
     ensures same { (V.shelving shelf.new).documents ≡ (V.shelving shelf.old).documents }
     ensures later { (V.shelving shelf.old).faults ≤ (V.shelving shelf.new).faults }
 {
-    let which = Which::Log;
-    let bytes = fetch_document(alloc, shelf, which, name)?;
+    let kind = DocumentKind::Log;
+    let bytes = fetch_document(alloc, shelf, kind, name)?;
     match read_text(alloc, &bytes) {
         Ok(opened) => Ok(opened),
-        Err(Unread::Refused(fault)) => Err(OpeningError::Refused { which, fault }),
+        Err(Unread::Refused(fault)) => Err(OpeningError::Refused { kind, fault }),
         Err(Unread::NoMemory) => Err(OpeningError::NoMemory),
     }
 }

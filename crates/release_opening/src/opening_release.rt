@@ -1,14 +1,15 @@
 //! The set that a command asks for is opened, with the features that are asked for.
-ghost use Rattle.std.specs.Prelude.{◌≡◌, ◌≤◌, ◌<◌, ℕ, Bool, List, [], length, true, false, is_some, option_map, Ok};
+ghost use Rattle.std.specs.Prelude.{◌≡◌, ◌≤◌, ◌<◌, ℕ, List, [], length, option_map, Ok};
 ghost use Rattle.std.specs.List.{AllByRecursion};
 ghost use Rattle.spec_command.specs.Commands.{pin_limit};
 ghost use Rattle.spec_command.specs.Pins as spec;
 ghost use Rattle.spec_walk.specs.Limits.{Counts};
 ghost use Rattle.spec_features.specs.Fits.{PinOf};
 ghost use Rattle.spec_instructions.specs.Tree.{Node};
-ghost use Rattle.spec_run.specs.End as run;
+ghost use Rattle.spec_run.specs.Kinds as kinds;
+ghost use Rattle.spec_run.specs.Kinds.{named};
 ghost use Rattle.spec_run.specs.Opening.{◌then◌, machine_opened, machine_by, unconfigured, features_given, configured};
-ghost use Rattle.spec_run.specs.Commands.{of_release};
+ghost use Rattle.spec_run.specs.Commands.{kinds_of_release};
 ghost use Rattle.mrs_arena.specs.Placed.{AreHeld};
 ghost use Rattle.mrs_command.specs.Commands.{release_of, configured_of};
 ghost use Rattle.release_opening.specs.Opens.{Opens, IsOf};
@@ -38,7 +39,7 @@ pub fn open_release<V: Shelf>(
 ) -> Result<Opened, OpeningError>
     requires { length asked.pins ≤ pin_limit }
     ensures opens { Opens (machine_opened (release_of release.entry) (configured_of asked.entry)) (V.shelving shelf.old) (V.shelving shelf.new) result }
-    ensures named { IsOf (of_release (is_some asked.entry.features)) result }
+    ensures named { IsOf (kinds_of_release (configured_of asked.entry)) result }
     ensures same { (V.shelving shelf.new).documents ≡ (V.shelving shelf.old).documents }
     ensures later { (V.shelving shelf.old).faults ≤ (V.shelving shelf.new).faults }
 {
@@ -55,7 +56,7 @@ pub fn open_set<V: Shelf>(
     release: Release<'_>,
 ) -> Result<Opened, OpeningError>
     ensures opens { Opens (machine_opened (release_of release.entry) unconfigured) (V.shelving shelf.old) (V.shelving shelf.new) result }
-    ensures named { IsOf (of_release false) result }
+    ensures named { IsOf (kinds_of_release unconfigured) result }
     ensures same { (V.shelving shelf.new).documents ≡ (V.shelving shelf.old).documents }
     ensures later { (V.shelving shelf.old).faults ≤ (V.shelving shelf.new).faults }
 {
@@ -79,7 +80,7 @@ fn open_machine<V: Shelf>(
     ensures opens { (asked : List spec.Pin) (read : Node × Counts) → ArePins names pins.now asked → IsArenaFor names read arena
         → Opens (λ docs. features_given (option_map (λ name. name.now) features.entry) asked read.1.held docs then λ f. (configured f asked then λ g. Ok (machine_by read.0 g)))
         (V.shelving shelf.old) (V.shelving shelf.new) result }
-    ensures named { (asked : run.Which → Bool) → (is_some features.entry ≡ true → asked run.Features ≡ true) → IsOf asked result }
+    ensures named { IsOf (named kinds.Features (option_map (λ name. name.now) features.entry)) result }
     ensures same { (V.shelving shelf.new).documents ≡ (V.shelving shelf.old).documents }
     ensures later { (V.shelving shelf.old).faults ≤ (V.shelving shelf.new).faults }
 {

@@ -47,9 +47,9 @@ module _ (machine : Machine) (limit : ℕ) where
 
   -- where they hold a line that is refused, it decides
   pub asm_refused : (xs ys : List ℕ) (bad : BadLine) → length xs ≤ limit → (assembled_cut machine (cut xs)).refused ≡ Some bad
-      → asm_outcome machine limit (xs ++ ys) ≡ record { end = Question (Line bad.number bad.fault.at (reason machine bad.fault.why)); out = (assembled_cut machine (cut xs)).bytes }
+      → asm_outcome machine limit (xs ++ ys) ≡ record { end = Question (Line bad.number bad.fault.at bad.fault.why (reason machine bad.fault.why)); out = (assembled_cut machine (cut xs)).bytes }
   asm_refused xs ys bad le is =
-      let decided : (end : End) → assembly_outcome machine end (assembled_cut machine (cut xs)) ≡ record { end = Question (Line bad.number bad.fault.at (reason machine bad.fault.why)); out = (assembled_cut machine (cut xs)).bytes } = λ end. rw is refl in
+      let decided : (end : End) → assembly_outcome machine end (assembled_cut machine (cut xs)) ≡ record { end = Question (Line bad.number bad.fault.at bad.fault.why (reason machine bad.fault.why)); out = (assembled_cut machine (cut xs)).bytes } = λ end. rw is refl in
       elim (cases_lt limit (length (xs ++ ys))) [
         | inl long ↦ asm_long machine limit (xs ++ ys) long ∙ ap (λ bytes. assembly_outcome machine (Limit Input) (assembled_cut machine (cut bytes))) (within xs ys le)
             ∙ ap (assembly_outcome machine (Limit Input)) (cut_stays machine xs bad is (take (limit - length xs) ys)) ∙ decided (Limit Input)

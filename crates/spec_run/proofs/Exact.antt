@@ -1,5 +1,5 @@
 -- What the statuses say, put together: an answer is the outcome's, and a run without faults gives the outcome.
-use Rattle.std.proofs.Common.{◌≡◌, ◌⊎◌, ℕ, ◌≤◌, List, [], ◌++◌, length, take, drop, arith, Option, Some, None, IfSome, IsSomeAnd, Result, Ok, Err, inl, inr, refl, sym, ap, ◌∙◌, subst, append_assoc, length-append, length-take}
+use Rattle.std.proofs.Common.{◌≡◌, ◌⊎◌, ℕ, ◌≤◌, ◌<◌, List, [], ◌++◌, length, take, drop, arith, Option, Some, None, IfSome, IsSomeAnd, Result, Ok, Err, inl, inr, refl, sym, ap, ◌∙◌, subst, append_assoc, length-append, length-take}
 use Rattle.std.specs.Io.KnownBytes.{Consumes, Keeps}
 use Rattle.std.proofs.KnownBytes.{Appends-nil, Appends-kept}
 use Rattle.std.proofs.Math.Seq.{take-append_seam}
@@ -9,7 +9,9 @@ use Rattle.spec_io.specs.Documents.{Document as Named}
 use Rattle.spec_io.specs.States.{Reading, Writing}
 use Rattle.spec_command.specs.Commands.{Request}
 use Rattle.spec_command.specs.Request.{request}
-use Rattle.spec_run.specs.End.{End, Done, Ragged, Usage, Document, Refuted, Question, NoFeature, NoLeaf, Line, ReadFault, WriteFault, Limit, NoMemory, Which, Insns, Features, Log, Input, IsEarly}
+use Rattle.spec_run.specs.End.{End, Done, Ragged, Usage, Document, Refuted, Question, NoFeature, NoLeaf, Line, ReadFault, WriteFault, Limit, NoMemory, Of, Input, IsEarly}
+use Rattle.spec_run.specs.Kinds.{DocumentKind, place}
+use Rattle.spec_run.specs.Documents.{under_names}
 use Rattle.spec_run.specs.Opening.{OpeningError, NotRead, TooLong, Refused, UnknownPin, NoneFits}
 use Rattle.spec_run.specs.Refutation.{EndsBy}
 use Rattle.spec_run.specs.Work.{Outcome, Work, Once, Reads, Over, outcome_of}
@@ -18,10 +20,11 @@ use Rattle.spec_run.specs.Outcome.{after_opening, of_request, outcome, EndsAs, o
 use Rattle.spec_run.specs.Scene.{Scene, Took, TookPrefix, TookShort}
 use Rattle.spec_run.specs.Ran.{Told, Whole, Broke, SourceBroke, Ran}
 use Rattle.spec_run.specs.Fits.{IsFit, IsProgress}
-use Rattle.spec_run.specs.Opens.{DocumentsGive, IsUnopened}
+use Rattle.spec_run.specs.Opens.{DocumentsGive, IsMissing, IsUnopened}
 use Rattle.spec_run.specs.Answers.{Untouched, NothingFits, WorkDecides, OutOfMemory, Means, Misused, Asked, Says}
-use Rattle.spec_run.specs.Exact.{GivesOutcome, IsAnswer, IsLate, IsCut, AnswersAreExact, RunsComplete, FaultsComeLate, PrefixesGoOut}
+use Rattle.spec_run.specs.Exact.{GivesOutcome, IsAnswer, IsLate, IsCut, AnswersAreExact, RunsComplete, FaultsComeLate, EndsBefore, DocumentFaultsComeInOrder, PrefixesGoOut}
 use Rattle.spec_run.proofs.Fits.{works_fit}
+use Rattle.spec_run.proofs.InOrder.{never_before}
 
 told : {A : Type 0} (o : Option A) (x : A) (P : A → Type 0) → o ≡ Some x → IfSome o P → P x
 told {A = A} o x P e h = let Q : Option A → Type 0 = λ o. IfSome o P in subst Q e h
@@ -83,14 +86,10 @@ never_early input input_after out out_after over (Usage place) fits h early = h.
 never_early input input_after out out_after over (Document which fault) fits h early = h.meaning
 never_early input input_after out out_after over (Refuted steps log) fits h early = h.meaning
 never_early input input_after out out_after over (Question fault) fits h early = fits.late h.meaning.0 (subst IsEarly (sym h.meaning.2.0) early)
-never_early input input_after out out_after over (ReadFault Insns) fits h early = h.meaning
-never_early input input_after out out_after over (ReadFault Features) fits h early = h.meaning
-never_early input input_after out out_after over (ReadFault Log) fits h early = h.meaning
+never_early input input_after out out_after over (ReadFault (Of kind)) fits h early = h.meaning
 never_early input input_after out out_after over (ReadFault Input) fits h early = early
 never_early input input_after out out_after over WriteFault fits h early = early
-never_early input input_after out out_after over (Limit Insns) fits h early = h.meaning
-never_early input input_after out out_after over (Limit Features) fits h early = h.meaning
-never_early input input_after out out_after over (Limit Log) fits h early = h.meaning
+never_early input input_after out out_after over (Limit (Of kind)) fits h early = h.meaning
 never_early input input_after out out_after over (Limit Input) fits h early = early
 never_early input input_after out out_after over NoMemory fits h early = early
 
@@ -126,23 +125,35 @@ module _ (words : List (List ℕ)) (s : Scene) (docs : List Named) (bytes : List
 
   -- ---- the words ask for something
 
-  module _ (d : s.shelf.documents ≡ Some docs) (l : s.input.left ≡ Some bytes) (asked : Request) (says : request words ≡ Ok asked) where
+  module _ (d : s.shelf.documents ≡ Some docs) (asked : Request) (says : request words ≡ Ok asked) where
     -- the outcome where it is not opened
-    refused : (error : OpeningError) → opened asked docs ≡ Err error → outcome words docs bytes ≡ Err error
+    refused : (error : OpeningError) → opened asked (under_names docs) ≡ Err error → outcome words docs bytes ≡ Err error
     refused error cause = ap (λ r. of_request r docs bytes) says ∙ ap (λ r. after_opening asked r bytes) cause
 
+    -- a document is not there
+    missing : (kind : DocumentKind) → IsMissing (opened asked) s.shelf s.shelf_after kind → outcome words docs bytes ≡ Err (NotRead kind)
+    missing kind none = refused (NotRead kind) (told_and s.shelf.documents docs (λ docs. opened asked (under_names docs) ≡ Err (NotRead kind)) d none)
+
+    -- no document before it in the order of work decides
+    in_order : (kind : DocumentKind) → IsUnopened (opened asked) s.shelf s.shelf_after (NotRead kind) → ¬ EndsBefore kind (outcome words docs bytes)
+    in_order kind cause early = elim cause [
+      | inl failed ↦ never_before kind asked (under_names docs) bytes (told s.shelf.documents docs _ d failed.reached) (subst (EndsBefore kind) (ap (λ r. of_request r docs bytes) says) early)
+      | inr none ↦ (let before : place kind < place kind = subst (EndsBefore kind) (missing kind none) early in absurd (omega (arith, before)))
+    ]
+
+  module _ (d : s.shelf.documents ≡ Some docs) (l : s.input.left ≡ Some bytes) (asked : Request) (says : request words ≡ Ok asked) where
     by_opening : (error : OpeningError) (end : End) → EndsBy error end → DocumentsGive (opened asked) s.shelf s.shelf_after (Err error) → Untouched s → GivesOutcome words s docs bytes end
-    by_opening error end ends opens still = nothing end (Err error) (refused error (told s.shelf.documents docs _ d opens)) ends refl still.out
+    by_opening error end ends opens still = nothing end (Err error) (refused d asked says error (told s.shelf.documents docs _ d opens)) ends refl still.out
 
     -- no configuration fits
     unfitting : (steps : ℕ) (log : List ℕ) → NothingFits s asked steps log → GivesOutcome words s docs bytes (Refuted steps log)
     unfitting steps log h = by_opening (NoneFits h.variables h.clauses) (Refuted steps log) (steps, log, refl, h.refutation) h.decides.cause.0 h.decides.untouched
 
-    -- a document that is not there, where the shelf's count did not rise
-    unfetched : (which : Which) → IsUnopened (opened asked) s.shelf s.shelf_after (NotRead which) → ¬ Rose s.shelf.faults s.shelf_after.faults → EndsAs (outcome words docs bytes) (ReadFault which)
-    unfetched which cause still = elim cause [
-      | inl rose ↦ absurd (still rose)
-      | inr none ↦ (let e = refused (NotRead which) (told_and s.shelf.documents docs (λ docs. opened asked docs ≡ Err (NotRead which)) d none) in subst (λ r. EndsAs r (ReadFault which)) (sym e) refl)
+    -- a document is not there, where the shelf's count did not rise
+    unfetched : (kind : DocumentKind) → IsUnopened (opened asked) s.shelf s.shelf_after (NotRead kind) → ¬ Rose s.shelf.faults s.shelf_after.faults → EndsAs (outcome words docs bytes) (ReadFault (Of kind))
+    unfetched kind cause still = elim cause [
+      | inl failed ↦ absurd (still failed.cause)
+      | inr none ↦ subst (λ r. EndsAs r (ReadFault (Of kind))) (sym (missing d asked says kind none)) refl
     ]
 
     -- the outcome where it is opened
@@ -160,24 +171,21 @@ module _ (words : List (List ℕ)) (s : Scene) (docs : List Named) (bytes : List
     exact Done h a = whole Done h h.ran.meaning.0
     exact (Ragged rest) h a = whole (Ragged rest) h h.ran.meaning.0
     exact (Usage place) h a = absurd h
-    exact (Document which fault) h a = by_opening (Refused which fault) (Document which fault) refl h.cause.0 h.untouched
+    exact (Document (Of kind) fault) h a = by_opening (Refused kind fault) (Document (Of kind) fault) refl h.cause.0 h.untouched
+    exact (Document Input fault) h a = absurd h
     exact (Refuted steps log) h a = unfitting steps log h
     exact (Question (NoFeature pin)) h a = by_opening (UnknownPin pin) (Question (NoFeature pin)) refl h.cause.0 h.untouched
     exact (Question NoLeaf) h a = whole (Question NoLeaf) h h.ran.meaning
-    exact (Question (Line number at reason)) h a = whole (Question (Line number at reason)) h h.ran.meaning
+    exact (Question (Line number at why reason)) h a = whole (Question (Line number at why reason)) h h.ran.meaning
     exact (ReadFault which) h a = absurd a
     exact WriteFault h a = absurd a
-    exact (Limit Insns) h a = by_opening (TooLong Insns) (Limit Insns) refl h.cause.0 h.untouched
-    exact (Limit Features) h a = by_opening (TooLong Features) (Limit Features) refl h.cause.0 h.untouched
-    exact (Limit Log) h a = by_opening (TooLong Log) (Limit Log) refl h.cause.0 h.untouched
+    exact (Limit (Of kind)) h a = by_opening (TooLong kind) (Limit (Of kind)) refl h.cause.0 h.untouched
     exact (Limit Input) h a = whole (Limit Input) h h.ran.meaning
     exact NoMemory h a = absurd a
 
     complete : (end : End) → Means s asked end → ¬ Rose s.shelf.faults s.shelf_after.faults → ¬ Rose s.input.faults s.input_after.faults → ¬ Rose s.out.faults s.out_after.faults → EndsAs (outcome words docs bytes) end ⊎ (end ≡ NoMemory)
     complete NoMemory h shelf input out = inr refl
-    complete (ReadFault Insns) h shelf input out = inl (unfetched Insns h.cause shelf)
-    complete (ReadFault Features) h shelf input out = inl (unfetched Features h.cause shelf)
-    complete (ReadFault Log) h shelf input out = inl (unfetched Log h.cause shelf)
+    complete (ReadFault (Of kind)) h shelf input out = inl (unfetched kind h.cause shelf)
     complete (ReadFault Input) h shelf input out = absurd (input (source_rose s.input s.input_after s.out s.out_after (work_of asked h.found) h.ran.meaning))
     complete WriteFault h shelf input out = absurd (out h.ran.meaning.0)
     complete Done h shelf input out = inl (exact Done h tt).0
@@ -195,9 +203,7 @@ module _ (words : List (List ℕ)) (s : Scene) (docs : List Named) (bytes : List
         let work : Work = work_of asked h.found in
         let short = outcome_told s.input s.input_after s.out s.out_after bytes l work (λ o. TookShort s.out s.out_after o.out) h.ran.meaning.1 in
         late_write s.input s.input_after s.out s.out_after bytes l work (works_fit asked h.found) short (subst EndsEarly (accepted WriteFault h) early)
-    late (ReadFault Insns) h is early = is
-    late (ReadFault Features) h is early = is
-    late (ReadFault Log) h is early = is
+    late (ReadFault (Of kind)) h is early = is
     late Done h is early = is
     late (Ragged rest) h is early = is
     late (Usage place) h is early = is
@@ -223,9 +229,7 @@ module _ (words : List (List ℕ)) (s : Scene) (docs : List Named) (bytes : List
         subst Prefix (sym (accepted (ReadFault Input) h)) (source_cut s.input s.input_after s.out s.out_after bytes l (work_of asked h.found) (works_fit asked h.found) h.ran.meaning)
     cut WriteFault h is = short_is_prefix s.input s.input_after s.out s.out_after bytes l _ (by_work WriteFault (λ r. TookShort s.out s.out_after (out_of r)) h h.ran.meaning.1)
     cut NoMemory h is = cut_short h
-    cut (ReadFault Insns) h is = absurd is
-    cut (ReadFault Features) h is = absurd is
-    cut (ReadFault Log) h is = absurd is
+    cut (ReadFault (Of kind)) h is = absurd is
     cut Done h is = absurd is
     cut (Ragged rest) h is = absurd is
     cut (Usage place) h is = absurd is
@@ -253,6 +257,9 @@ faults_come_late words s docs bytes end d l h is early = elim (said words s end 
   | inl m ↦ (let never : IsLate (Usage m.0) = subst IsLate m.1 is in absurd never)
   | inr c ↦ late words s docs bytes d l c.asked c.says end c.means is early
 ]
+
+pub document_faults_come_in_order : DocumentFaultsComeInOrder
+document_faults_come_in_order words s docs bytes kind d h = ((h.asked, h.says), in_order words s docs bytes d h.asked h.says kind h.means.cause)
 
 pub prefixes_go_out : PrefixesGoOut
 prefixes_go_out words s docs bytes end d l h is = elim (said words s end h) [

@@ -1,5 +1,6 @@
 pub mod Assembling
 pub mod Fits
+pub mod InOrder
 pub mod Exact
 pub mod Told
 pub mod Worked

@@ -8,7 +8,8 @@ use Rattle.spec_refutation.specs.LogReading.{Log as Read}
 use Rattle.spec_refutation.proofs.LogReadings.{log_is_read, fault_is_read}
 use Rattle.spec_refutation.proofs.Failures.{refutes_tells, fails_tells}
 use Rattle.spec_lines.specs.LogLine.{refuted_line, fails_line}
-use Rattle.spec_run.specs.End.{Log, Syntax}
+use Rattle.spec_run.specs.Kinds.{Log}
+use Rattle.spec_run.specs.End.{Syntax}
 use Rattle.spec_run.specs.Opening.{Refused}
 use Rattle.spec_run.specs.Logs.{Checked, of_text, line_of, log_line}
 

@@ -1,7 +1,6 @@
 -- `asm` over the bare lines of `list` gives the stream again.
 use Rattle.std.proofs.Common.{◌≡◌, ◌∙◌, ap, sym, subst, refl, ℕ, ◌%◌, ◌≤◌, take, Bool, true, false, cond, nat_lt, List, [], ◌∷◌, length, Option, Some, None, Result, Ok, Err, arith}
 use Rattle.serde_json.specs.Data.{Data}
-use Rattle.spec_io.specs.Documents.{Document as Named, document_of}
 use Rattle.spec_walk.specs.Event.{Fault}
 use Rattle.spec_walk.specs.Limits.{Counts, ◌>>=◌}
 use Rattle.spec_expressions.specs.Scope.{Configuration}
@@ -19,7 +18,9 @@ use Rattle.spec_lines.proofs.StreamsBack.{bare_streams_are_read}
 use Rattle.spec_lines.proofs.EncodedLaws.{lone_fields_tell_word}
 use Rattle.spec_lines.proofs.ReadableLaws.{sound_machines_are_readable}
 use Rattle.spec_lines.proofs.SoundAliasLaws.{aliases_are_sound}
-use Rattle.spec_run.specs.End.{Which, Done, Ragged, Limit, Insns, Input}
+use Rattle.spec_run.specs.Kinds.{DocumentKind, Insns}
+use Rattle.spec_run.specs.Documents.{Documents, under_names}
+use Rattle.spec_run.specs.End.{Done, Ragged, Limit, Input}
 use Rattle.spec_run.specs.Work.{Outcome}
 use Rattle.spec_run.specs.Opening.{OpeningError, TooLong, ◌then◌, json_in, by_walk, by_value, document_limit, by_bytes, set_opened, pinned, features_given, configured, machine_by, machine_opened}
 use Rattle.spec_run.specs.Listing.{stream_end, list_outcome}
@@ -65,20 +66,20 @@ then_gives (Ok x) f y e = (x, refl, e)
 then_gives (Err error) f y e = absurd cc
 
 -- what was read of a document came of a walk over some value
-module _ {A : Type 0} (which : Which) (walk : Data → Result A Fault) (x : A) where
-  walk_gives : (r : Result A Fault) → by_walk which r ≡ Ok x → r ≡ Ok x
+module _ {A : Type 0} (kind : DocumentKind) (walk : Data → Result A Fault) (x : A) where
+  walk_gives : (r : Result A Fault) → by_walk kind r ≡ Ok x → r ≡ Ok x
   walk_gives (Ok y) e = cc
   walk_gives (Err fault) e = absurd cc
 
-  value_gives : (value : Option Data) → by_value which walk value ≡ Ok x → (d : Data) × (walk d ≡ Ok x)
+  value_gives : (value : Option Data) → by_value kind walk value ≡ Ok x → (d : Data) × (walk d ≡ Ok x)
   value_gives None e = absurd cc
   value_gives (Some d) e = (d, walk_gives (walk d) e)
 
-  document_gives : (document : Option (List ℕ)) → by_bytes which (λ bytes. by_value which walk (json_in bytes)) document ≡ Ok x → (d : Data) × (walk d ≡ Ok x)
+  document_gives : (document : Option (List ℕ)) → by_bytes kind (λ bytes. by_value kind walk (json_in bytes)) document ≡ Ok x → (d : Data) × (walk d ≡ Ok x)
   document_gives None e = absurd cc
   document_gives (Some bytes) e = go (nat_lt document_limit (length bytes)) e
     where
-      go : (v : Bool) → cond v (Err (TooLong which)) (by_value which walk (json_in bytes)) ≡ Ok x → (d : Data) × (walk d ≡ Ok x)
+      go : (v : Bool) → cond v (Err (TooLong kind)) (by_value kind walk (json_in bytes)) ≡ Ok x → (d : Data) × (walk d ≡ Ok x)
       go true e = absurd cc
       go false e = value_gives (json_in bytes) e
 
@@ -91,12 +92,12 @@ set_is_readable isa held d read g e =
 ok_same : {A : Type 0} (x y : A) → (let r : Result A OpeningError = Ok x in r) ≡ Ok y → x ≡ y
 ok_same x y e = cc
 
-opened_is_readable : (release : Release) (asked : Configured) (docs : List Named) (machine : Machine) → machine_opened release asked docs ≡ Ok machine → IsReadable machine
+opened_is_readable : (release : Release) (asked : Configured) (docs : Documents) (machine : Machine) → machine_opened release asked docs ≡ Ok machine → IsReadable machine
 opened_is_readable release asked docs machine e =
     let set = then_gives (set_opened release (pinned asked.pins) docs) _ machine e in
     let given = then_gives (features_given asked.features asked.pins set.0.1.held docs) _ machine set.2 in
     let used = then_gives (configured given.0 asked.pins) _ machine given.2 in
-    let found = document_gives Insns (tree_read release.isa (pinned asked.pins)) set.0 (document_of release.insns docs) set.1 in
+    let found = document_gives Insns (tree_read release.isa (pinned asked.pins)) set.0 (docs Insns release.insns) set.1 in
     subst IsReadable (ok_same (machine_by set.0.0 used.0) machine used.2) (set_is_readable release.isa (pinned asked.pins) found.0 set.0 used.0 found.1)
 
 -- so its lines tell words by their fields
@@ -106,7 +107,7 @@ opened_fields_tell_word release asked docs machine w c e word lone = lone_fields
 pub lists_are_assembled : ListsAreAssembled
 lists_are_assembled list_words asm_words docs bytes lines h small e le =
     ap (λ r. of_request r docs lines) h.assembles
-    ∙ opened (machine_opened h.release h.asked docs) (opened_is_readable h.release h.asked docs) (ap (λ r. of_request r docs bytes) (sym h.lists) ∙ e)
+    ∙ opened (machine_opened h.release h.asked (under_names docs)) (opened_is_readable h.release h.asked (under_names docs)) (ap (λ r. of_request r docs bytes) (sym h.lists) ∙ e)
   where
     opened : (r : Result Machine OpeningError) → ((machine : Machine) → r ≡ Ok machine → IsReadable machine) → after_opening (AskList h.release true h.list_limit h.asked) r bytes ≡ Ok (record { end = Done; out = lines })
         → after_opening (AskAsm h.release h.asm_limit h.asked) r lines ≡ Ok (record { end = Done; out = bytes })

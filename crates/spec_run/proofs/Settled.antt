@@ -2,7 +2,6 @@
 use Rattle.std.proofs.Common.{◌≡◌, ◌⊎◌, inl, inr, refl, ap, ◌∙◌, subst, ℕ, Bool, true, false, cond, nat_lt, length, List, Option, Some, None, Result, Ok, Err}
 use Rattle.std.specs.Prelude.{⊤}
 use Rattle.serde_json.specs.Data.{Data}
-use Rattle.spec_io.specs.Documents.{Document as Named, document_of}
 use Rattle.spec_walk.specs.Event.{Fault}
 use Rattle.spec_walk.specs.Limits.{Counts}
 use Rattle.spec_expressions.specs.Scope.{Configuration}
@@ -13,7 +12,8 @@ use Rattle.spec_instructions.specs.Reading.{tree_read}
 use Rattle.spec_decode.specs.Machine.{Machine}
 use Rattle.spec_command.specs.Pins.{Pin}
 use Rattle.spec_command.specs.Commands.{Release, Configured}
-use Rattle.spec_run.specs.End.{Which, Insns, Features}
+use Rattle.spec_run.specs.Kinds.{DocumentKind, Insns, Features}
+use Rattle.spec_run.specs.Documents.{Documents}
 use Rattle.spec_run.specs.Opening.{OpeningError, NotRead, TooLong, Refused, UnknownPin, NoneFits, ◌then◌, json_in, by_walk, by_value, by_bytes, document_limit, document_read, pinned, set_opened, features_opened, features_given, configured, machine_by, machine_opened, configuration_opened}
 use Rattle.spec_run.specs.First.{Settled, AreGiven, AreOfDocument, InUseOnMachine, InUseOfDocument}
 use Rattle.spec_run.proofs.First.{first_is_in_use, none_is_in_use, pin_is_unknown}
@@ -33,35 +33,35 @@ then_Err (Err other) f error e = inl cc
 -- where nothing is made of documents, it is for one of them
 abbrev OfDocument : OpeningError → Type 0
 OfDocument (NotRead which) = ⊤
-OfDocument (TooLong which) = ⊤
-OfDocument (Refused which fault) = ⊤
+OfDocument (TooLong kind) = ⊤
+OfDocument (Refused kind fault) = ⊤
 OfDocument error = ⊥
 
 abbrev IsOfDocuments : {A : Type 0} → Result A OpeningError → Type 0
 IsOfDocuments (Ok x) = ⊤
 IsOfDocuments (Err error) = OfDocument error
 
-module _ {A : Type 0} (which : Which) (walk : Data → Result A Fault) where
-  of_walk : (r : Result A Fault) → IsOfDocuments (by_walk which r)
+module _ {A : Type 0} (kind : DocumentKind) (walk : Data → Result A Fault) where
+  of_walk : (r : Result A Fault) → IsOfDocuments (by_walk kind r)
   of_walk (Ok x) = tt
   of_walk (Err fault) = tt
 
-  of_value : (value : Option Data) → IsOfDocuments (by_value which walk value)
+  of_value : (value : Option Data) → IsOfDocuments (by_value kind walk value)
   of_value None = tt
   of_value (Some d) = of_walk (walk d)
 
-  of_bytes : (found : Option (List ℕ)) → IsOfDocuments (by_bytes which (λ bytes. by_value which walk (json_in bytes)) found)
+  of_bytes : (found : Option (List ℕ)) → IsOfDocuments (by_bytes kind (λ bytes. by_value kind walk (json_in bytes)) found)
   of_bytes None = tt
   of_bytes (Some bytes) = go (nat_lt document_limit (length bytes))
     where
-      go : (long : Bool) → IsOfDocuments (cond long (Err (TooLong which)) (by_value which walk (json_in bytes)))
+      go : (long : Bool) → IsOfDocuments (cond long (Err (TooLong kind)) (by_value kind walk (json_in bytes)))
       go true = tt
       go false = of_value (json_in bytes)
 
-  of_read : (name : List ℕ) (docs : List Named) → IsOfDocuments (document_read which walk name docs)
-  of_read name docs = of_bytes (document_of name docs)
+  of_read : (name : List ℕ) (docs : Documents) → IsOfDocuments (document_read kind walk name docs)
+  of_read name docs = of_bytes (docs kind name)
 
-of_given : (features : Option (List ℕ)) (pins : List Pin) (held : List (List ℕ)) (docs : List Named) → IsOfDocuments (features_given features pins held docs)
+of_given : (features : Option (List ℕ)) (pins : List Pin) (held : List (List ℕ)) (docs : Documents) → IsOfDocuments (features_given features pins held docs)
 of_given None pins held docs = tt
 of_given (Some name) pins held docs = go (features_opened name held docs) (of_read Features (features_read held) name docs)
   where
@@ -84,7 +84,7 @@ module _ {A : Type 0} (Given : Theirs → Type 0) (pins : List Pin) (in_use : A 
     unknown = λ i e. let h = follows.failed (UnknownPin i) (λ never. never) e in (h.0, h.1, (pin_is_unknown h.0 pins i).0 h.2);
   }
 
-module _ (release : Release) (asked : Configured) (docs : List Named) where
+module _ (release : Release) (asked : Configured) (docs : Documents) where
   abbrev set : Result (Node × Counts) OpeningError
   set = set_opened release (pinned asked.pins) docs
 
@@ -116,7 +116,7 @@ module _ (release : Release) (asked : Configured) (docs : List Named) where
         | inr g ↦ let made = g.2 in absurd cc
       ]
 
-module _ (name : List ℕ) (pins : List Pin) (docs : List Named) where
+module _ (name : List ℕ) (pins : List Pin) (docs : Documents) where
   document_follows : Follows {A = Configuration} (AreOfDocument name pins docs) pins (λ g. g) (configuration_opened name pins docs)
   document_follows = record {
     used = λ g e.

@@ -12,7 +12,10 @@ use Rattle.spec_decode.specs.Machine.{Machine}
 use Rattle.spec_command.specs.Request.{request}
 use Rattle.spec_command.specs.Commands.{Configured, Request, AskList, AskLeaf}
 use Rattle.spec_run.specs.RoundTrip.{AreInverse}
-use Rattle.spec_run.specs.End.{Done, Ragged, Usage, Document, Question, NoLeaf, Line, ReadFault, WriteFault, Limit, Insns, Log, Input, Json, Schema, Syntax, message}
+use Rattle.spec_lines.specs.LineFault.{Pair}
+use Rattle.spec_run.specs.Kinds.{Insns, Log}
+use Rattle.spec_run.specs.Documents.{under_names}
+use Rattle.spec_run.specs.End.{Done, Ragged, Usage, Document, Question, NoLeaf, Line, ReadFault, WriteFault, Limit, Of, Input, Json, Schema, Syntax, message}
 use Rattle.spec_run.specs.Opening.{OpeningError, NotRead, Refused, ◌then◌, by_value, pinned, features_given, configured, machine_by, unconfigured}
 use Rattle.spec_run.specs.Work.{Outcome}
 use Rattle.spec_run.specs.Outcome.{outcome, after_opening}
@@ -25,7 +28,7 @@ set_in isa held document = by_value Insns (tree_read isa held) (read document)
 abbrev machine_in : List ℕ → Configured → List ℕ → Result Machine OpeningError
 machine_in isa asked document =
     set_in isa (pinned asked.pins) document then λ read.
-    (features_given asked.features asked.pins read.1.held [] then λ features. (configured features asked.pins then λ g. Ok (machine_by read.0 g)))
+    (features_given asked.features asked.pins read.1.held (under_names []) then λ features. (configured features asked.pins then λ g. Ok (machine_by read.0 g)))
 
 empty_object : set_in (codes "A64") [] (codes "{}") ≡ Err (Refused Insns (Schema (record { at = []; why = Missing (codes "instructions") })))
 unfolding digits serde_json_on_literals
@@ -45,16 +48,16 @@ refused_text : message (Usage 12) ≡ codes "usage 12\n"
 unfolding digits
 refused_text = refl
 
-missing_text : message (Document Insns (Schema (record { at = codes "/instructions/0"; why = Missing (codes "name") }))) ≡ codes "document insns missing:name /instructions/0\n"
+missing_text : message (Document (Of Insns) (Schema (record { at = codes "/instructions/0"; why = Missing (codes "name") }))) ≡ codes "document insns missing:name /instructions/0\n"
 missing_text = refl
 
-kind_text : message (Document Insns (Schema (record { at = codes "/instructions/0/children/2"; why = UnlistedKind }))) ≡ codes "document insns kind /instructions/0/children/2\n"
+kind_text : message (Document (Of Insns) (Schema (record { at = codes "/instructions/0/children/2"; why = UnlistedKind }))) ≡ codes "document insns kind /instructions/0/children/2\n"
 kind_text = refl
 
 leaf_text : message (Question NoLeaf) ≡ codes "leaf\n"
 leaf_text = refl
 
-line_text : message (Question (Line 12 5 (codes "missing Rd"))) ≡ codes "line 12 5 missing Rd\n"
+line_text : message (Question (Line 12 5 Pair (codes "pair"))) ≡ codes "line 12 5 pair\n"
 unfolding digits
 line_text = refl
 
@@ -113,13 +116,13 @@ off = refl
 texts : message (ReadFault Input) ≡ codes "read input\n"
 texts = refl
 
-limit_text : message (Limit Insns) ≡ codes "limit insns\n"
+limit_text : message (Limit (Of Insns)) ≡ codes "limit insns\n"
 limit_text = refl
 
 write_text : message WriteFault ≡ codes "write out\n"
 write_text = refl
 
-json_text : message (Document Insns Json) ≡ codes "document insns json\n"
+json_text : message (Document (Of Insns) Json) ≡ codes "document insns json\n"
 json_text = refl
 
 -- two leaves of one name
@@ -156,7 +159,7 @@ past_the_variables : proof_of (codes "s 4 :\n") ≡ Err (Refused Log (Syntax 44)
 unfolding digits
 past_the_variables = refl
 
-syntax_text : message (Document Log (Syntax 44)) ≡ codes "document log syntax 44\n"
+syntax_text : message (Document (Of Log) (Syntax 44)) ≡ codes "document log syntax 44\n"
 unfolding digits
 syntax_text = refl
 

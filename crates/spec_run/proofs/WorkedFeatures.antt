@@ -13,7 +13,8 @@ use Rattle.spec_refutation.proofs.Failures.{told_refutes}
 use Rattle.spec_command.specs.Pins.{Pin}
 use Rattle.spec_command.specs.Request.{request}
 use Rattle.spec_command.specs.Commands.{Request, AskConfig, AskCheck}
-use Rattle.spec_run.specs.End.{Done, Usage, Refuted, Question, NoFeature, Insns, Features, message}
+use Rattle.spec_run.specs.Kinds.{Insns, Features}
+use Rattle.spec_run.specs.End.{Done, Usage, Refuted, Question, NoFeature, message}
 use Rattle.spec_run.specs.Opening.{OpeningError, UnknownPin, NoneFits, ◌then◌, by_value, pinned, configured}
 use Rattle.spec_run.specs.Refutation.{EndsBy}
 use Rattle.spec_run.specs.Checking.{Counted, set_counts, feature_counts}

@@ -1,14 +1,14 @@
 -- What each status of a run says: its cause, the bytes on `out` and the text on `err`.
-use Rattle.std.specs.Prelude.{◌≡◌, ◌⊎◌, ℕ, ℤ, ◌≤◌, List, true, Ok, Err, ⊤}
+use Rattle.std.specs.Prelude.{◌≡◌, ◌⊎◌, ℕ, ℤ, ◌≤◌, List, Contains, Ok, Err, ⊤}
 use Rattle.std.specs.Io.KnownBytes.{Keeps}
 use Rattle.spec_io.specs.States.{Writing}
 use Rattle.spec_command.specs.Commands.{Request}
 use Rattle.spec_command.specs.Request.{request}
-use Rattle.spec_run.specs.End.{End, Done, Ragged, Usage, Document, Refuted, Question, NoFeature, ReadFault, WriteFault, Limit, NoMemory, Input, message}
+use Rattle.spec_run.specs.End.{End, Done, Ragged, Usage, Document, Refuted, Question, NoFeature, ReadFault, WriteFault, Limit, NoMemory, Of, Input, message}
 use Rattle.spec_run.specs.Opening.{OpeningError, NotRead, TooLong, Refused, UnknownPin, NoneFits}
 use Rattle.spec_run.specs.Refutation.{IsRefutation}
 use Rattle.spec_run.specs.Opens.{ShelfStill, DocumentsGive, IsUnopened}
-use Rattle.spec_run.specs.Commands.{Needs, opened, work_of, names_document}
+use Rattle.spec_run.specs.Commands.{Needs, opened, work_of, kinds_named}
 use Rattle.spec_run.specs.Ran.{Ran}
 use Rattle.spec_run.specs.Scene.{Scene, TookText, Kept}
 
@@ -21,9 +21,9 @@ pub record Untouched (s : Scene) : Type 0 where
 module _ (s : Scene) (asked : Request) where
   -- a document that the error names is one that the words name
   abbrev pub IsOfWords : OpeningError → Type 0
-  IsOfWords (NotRead which) = names_document asked which ≡ true
-  IsOfWords (TooLong which) = names_document asked which ≡ true
-  IsOfWords (Refused which fault) = names_document asked which ≡ true
+  IsOfWords (NotRead kind) = Contains (kinds_named asked) kind
+  IsOfWords (TooLong kind) = Contains (kinds_named asked) kind
+  IsOfWords (Refused kind fault) = Contains (kinds_named asked) kind
   IsOfWords error = ⊤
 
   -- what is asked for is not opened, which decides before the question and the stream
@@ -56,15 +56,16 @@ module _ (s : Scene) (asked : Request) where
   abbrev pub Means : End → Type 0
   Means Done = WorkDecides Done
   Means (Ragged rest) = WorkDecides (Ragged rest)
-  Means (Document which fault) = OpeningDecides (Refused which fault)
+  Means (Document (Of kind) fault) = OpeningDecides (Refused kind fault)
+  Means (Document Input fault) = ⊥
   Means (Refuted steps log) = NothingFits steps log
   Means (Question (NoFeature pin)) = OpeningDecides (UnknownPin pin)
   Means (Question fault) = WorkDecides (Question fault)
   Means (ReadFault Input) = WorkDecides (ReadFault Input)
-  Means (ReadFault which) = OpeningDecides (NotRead which)
+  Means (ReadFault (Of kind)) = OpeningDecides (NotRead kind)
   Means WriteFault = WorkDecides WriteFault
   Means (Limit Input) = WorkDecides (Limit Input)
-  Means (Limit which) = OpeningDecides (TooLong which)
+  Means (Limit (Of kind)) = OpeningDecides (TooLong kind)
   Means NoMemory = OutOfMemory
   Means (Usage place) = ⊥
 

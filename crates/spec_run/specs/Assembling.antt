@@ -10,7 +10,7 @@ use Rattle.spec_run.specs.Work.{Outcome, Over}
 -- a line that is refused decides, and else the run ends so
 abbrev pub or_refused : Machine → End → Option BadLine → End
 or_refused machine end None = end
-or_refused machine end (Some bad) = Question (Line bad.number bad.fault.at (reason machine bad.fault.why))
+or_refused machine end (Some bad) = Question (Line bad.number bad.fault.at bad.fault.why (reason machine bad.fault.why))
 
 -- the words of the lines before the first that is refused go out
 abbrev pub assembly_outcome : Machine → End → Assembled → Outcome

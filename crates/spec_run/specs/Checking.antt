@@ -1,12 +1,12 @@
 -- `check`: documents are read, and what stands in them is counted.
 use Rattle.std.specs.Prelude.{ℕ, ◌-◌, List, [], ◌∷◌, ◌++◌, length, bytes_eq, codes, decimal, Option, Some, None, Result, Ok}
-use Rattle.spec_io.specs.Documents.{Document as Named}
 use Rattle.spec_instructions.specs.Tree.{Node}
 use Rattle.spec_instructions.specs.Paths.{paths_from}
 use Rattle.spec_instructions.specs.Aliases.{aliases_in, owns_of}
 use Rattle.spec_features.specs.Features.{Features, booleans}
 use Rattle.spec_features.specs.Theory.{theory}
 use Rattle.spec_command.specs.Commands.{Checks}
+use Rattle.spec_run.specs.Documents.{Documents}
 use Rattle.spec_run.specs.End.{Done}
 use Rattle.spec_run.specs.Work.{Outcome}
 use Rattle.spec_run.specs.Opening.{OpeningError, ◌then◌, set_opened, features_opened}
@@ -41,16 +41,16 @@ pub record Counted : Type 0 where
   pub features : Option FeatureCounts
 
 -- what is counted in a set, where one is named, and the names that have a number behind it
-abbrev pub set_counted : Checks → List Named → Option (List ℕ) → Result (Option SetCounts × List (List ℕ)) OpeningError
+abbrev pub set_counted : Checks → Documents → Option (List ℕ) → Result (Option SetCounts × List (List ℕ)) OpeningError
 set_counted asked docs None = Ok (None, [])
 set_counted asked docs (Some name) = set_opened (record { insns = name; isa = asked.isa }) [] docs then λ read. Ok (Some (set_counts read.0), read.1.held)
 
-abbrev pub features_counted : List (List ℕ) → List Named → Option (List ℕ) → Result (Option FeatureCounts) OpeningError
+abbrev pub features_counted : List (List ℕ) → Documents → Option (List ℕ) → Result (Option FeatureCounts) OpeningError
 features_counted held docs None = Ok None
 features_counted held docs (Some name) = features_opened name held docs then λ read. Ok (Some (feature_counts read.0))
 
 -- the set first, and then the features
-abbrev pub checks_opened : Checks → List Named → Result Counted OpeningError
+abbrev pub checks_opened : Checks → Documents → Result Counted OpeningError
 checks_opened asked docs =
     set_counted asked docs asked.insns then λ set.
     (features_counted set.1 docs asked.features then λ features. Ok (record { set = set.0; features = features }))

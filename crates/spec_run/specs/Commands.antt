@@ -1,13 +1,15 @@
 -- The commands: what is opened for each, and its work by what was opened.
-use Rattle.std.specs.Prelude.{ℕ, Bool, true, false, List, [], Option, Some, None, is_some, Result}
-use Rattle.spec_io.specs.Documents.{Document as Named}
+use Rattle.std.specs.Prelude.{◌≡◌, ℕ, List, [], ◌∷◌, ◌++◌, Option, Some, None, Result, Ok, ⊤}
 use Rattle.spec_expressions.specs.Scope.{Configuration}
 use Rattle.spec_instructions.specs.Paths.{labelled_leaf}
 use Rattle.spec_decode.specs.Machine.{Machine}
 use Rattle.spec_lines.specs.Streams.{form_by}
 use Rattle.spec_lines.specs.LeafFields.{whole_leaf}
-use Rattle.spec_command.specs.Commands.{Request, AskList, AskAsm, AskLeaf, AskConfig, AskProof, AskCheck}
-use Rattle.spec_run.specs.End.{Which, Insns, Features, Log, Input, Done, Question, NoLeaf}
+use Rattle.spec_command.specs.Commands.{Request, Configured, Checks, AskList, AskAsm, AskLeaf, AskConfig, AskProof, AskCheck}
+use Rattle.spec_command.specs.Request.{request}
+use Rattle.spec_run.specs.Kinds.{DocumentKind, Insns, Features, Log, named}
+use Rattle.spec_run.specs.Documents.{Documents}
+use Rattle.spec_run.specs.End.{Done, Question, NoLeaf}
 use Rattle.spec_run.specs.Opening.{OpeningError, machine_opened, configuration_opened, unconfigured}
 use Rattle.spec_run.specs.Logs.{Checked, log_opened, log_outcome}
 use Rattle.spec_run.specs.Listing.{list_work}
@@ -26,7 +28,7 @@ Needs (AskProof log) = Checked
 Needs (AskCheck asked) = Counted
 
 -- what the documents make of it, or why it is not opened
-abbrev pub opened : (asked : Request) → List Named → Result (Needs asked) OpeningError
+abbrev pub opened : (asked : Request) → Documents → Result (Needs asked) OpeningError
 opened (AskList release bare limit asked) docs = machine_opened release asked docs
 opened (AskAsm release limit asked) docs = machine_opened release asked docs
 opened (AskLeaf release label) docs = machine_opened release unconfigured docs
@@ -34,32 +36,30 @@ opened (AskConfig features pins) docs = configuration_opened features pins docs
 opened (AskProof log) docs = log_opened log docs
 opened (AskCheck asked) docs = checks_opened asked docs
 
--- whether it is one of these: the Instructions document, the Features document, the log; the stream is none
-abbrev pub among : Bool → Bool → Bool → Which → Bool
-among insns features log Insns = insns
-among insns features log Features = features
-among insns features log Log = log
-among insns features log Input = false
+-- the kinds of the documents that the words name, in the order of work
+abbrev pub kinds_of_release : Configured → List DocumentKind
+kinds_of_release asked = Insns ∷ named Features asked.features
 
--- where a release is named, and a Features document may be
-abbrev pub of_release : Bool → Which → Bool
-of_release features which = among true features false which
+abbrev pub kinds_of_checks : Checks → List DocumentKind
+kinds_of_checks asked = named Insns asked.insns ++ named Features asked.features
 
--- where each may be named
-abbrev pub of_checks : Bool → Bool → Which → Bool
-of_checks insns features which = among insns features false which
+abbrev pub kinds_named : Request → List DocumentKind
+kinds_named (AskList release bare limit asked) = kinds_of_release asked
+kinds_named (AskAsm release limit asked) = kinds_of_release asked
+kinds_named (AskLeaf release label) = Insns ∷ []
+kinds_named (AskConfig features pins) = Features ∷ []
+kinds_named (AskProof log) = Log ∷ []
+kinds_named (AskCheck asked) = kinds_of_checks asked
 
-abbrev pub is_log : Which → Bool
-is_log which = among false false true which
+-- it reads the stream
+abbrev pub IsOverStream : Request → Type 0
+IsOverStream (AskList release bare limit asked) = ⊤
+IsOverStream (AskAsm release limit asked) = ⊤
+IsOverStream asked = ⊥
 
--- whether the words name such a document
-abbrev pub names_document : Request → Which → Bool
-names_document (AskList release bare limit asked) which = of_release (is_some asked.features) which
-names_document (AskAsm release limit asked) which = of_release (is_some asked.features) which
-names_document (AskLeaf release label) which = of_release false which
-names_document (AskConfig features pins) which = of_checks false true which
-names_document (AskProof log) which = is_log which
-names_document (AskCheck asked) which = of_checks (is_some asked.insns) (is_some asked.features) which
+-- the words ask for something that reads the stream
+abbrev pub ReadTheStream : List (List ℕ) → Type 0
+ReadTheStream words = (asked : Request) × (request words ≡ Ok asked) × IsOverStream asked
 
 -- ---- `leaf`
 

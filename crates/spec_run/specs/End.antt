@@ -1,12 +1,12 @@
 -- How a run ends: its status, the number with which the program ends, and the text on `err`.
 use Rattle.std.specs.Prelude.{ℕ, List, [], ◌∷◌, ◌++◌, codes, decimal, ⊤}
+use Rattle.spec_lines.specs.LineFault.{LineWhy}
+use Rattle.spec_run.specs.Kinds.{DocumentKind, Insns, Features, Log}
 use Rattle.spec_walk.specs.Event.{Fault, Why, Missing, UnlistedKind, WrongShape, BadPattern, BadRange, BadName, Doubled, TooMany, NoSet}
 
--- what a status names: the Instructions document, the Features document, the log, or the stream
+-- what a status names: the document of a kind, or the stream
 pub data Which : Type 0 where
-  Insns : Which
-  Features : Which
-  Log : Which
+  Of : DocumentKind → Which
   Input : Which
 
 -- a document has no JSON reading, or the walk over it has this first fault; a log is not as demanded at this byte
@@ -16,11 +16,11 @@ pub data DocFault : Type 0 where
   Syntax : ℕ → DocFault
 
 -- a question has no answer: the pin of that number, counted from 0, names no boolean parameter; no leaf has the label; or a line
--- is refused: its number, counted from 1, the byte, and the reason
+-- is refused: its number, counted from 1, the byte, why, and the reason, which is the text of that
 pub data QuestionFault : Type 0 where
   NoFeature : ℕ → QuestionFault
   NoLeaf : QuestionFault
-  Line : (number at : ℕ) → (reason : List ℕ) → QuestionFault
+  Line : (number at : ℕ) → LineWhy → (reason : List ℕ) → QuestionFault
 
 -- the statuses. Where no configuration fits, the status has the number of steps of a log that shows it, and the log's text
 pub data End : Type 0 where
@@ -41,7 +41,7 @@ pub data End : Type 0 where
 abbrev pub IsAsked : QuestionFault → Type 0
 IsAsked (NoFeature pin) = ⊤
 IsAsked NoLeaf = ⊤
-IsAsked (Line number at reason) = ⊥
+IsAsked (Line number at why reason) = ⊥
 
 -- the run ended before the stream was looked at, and nothing went out
 abbrev pub IsEarly : End → Type 0
@@ -49,12 +49,8 @@ IsEarly (Usage place) = ⊤
 IsEarly (Document which fault) = ⊤
 IsEarly (Refuted steps log) = ⊤
 IsEarly (Question fault) = IsAsked fault
-IsEarly (ReadFault Insns) = ⊤
-IsEarly (ReadFault Features) = ⊤
-IsEarly (ReadFault Log) = ⊤
-IsEarly (Limit Insns) = ⊤
-IsEarly (Limit Features) = ⊤
-IsEarly (Limit Log) = ⊤
+IsEarly (ReadFault (Of kind)) = ⊤
+IsEarly (Limit (Of kind)) = ⊤
 IsEarly end = ⊥
 
 -- the words were refused
@@ -76,10 +72,13 @@ exit_number WriteFault = 7
 exit_number (Limit which) = 8
 exit_number NoMemory = 9
 
+abbrev pub kind_text : DocumentKind → List ℕ
+kind_text Insns = codes "insns"
+kind_text Features = codes "features"
+kind_text Log = codes "log"
+
 abbrev pub which_text : Which → List ℕ
-which_text Insns = codes "insns"
-which_text Features = codes "features"
-which_text Log = codes "log"
+which_text (Of kind) = kind_text kind
 which_text Input = codes "input"
 
 abbrev pub why_text : Why → List ℕ
@@ -102,7 +101,7 @@ fault_text (Syntax at) = codes "syntax " ++ decimal at
 abbrev pub question_text : QuestionFault → List ℕ
 question_text (NoFeature pin) = codes "feature " ++ decimal pin
 question_text NoLeaf = codes "leaf"
-question_text (Line number at reason) = codes "line " ++ (decimal number ++ (32 ∷ (decimal at ++ 32 ∷ reason)))
+question_text (Line number at why reason) = codes "line " ++ (decimal number ++ (32 ∷ (decimal at ++ 32 ∷ reason)))
 
 abbrev pub message : End → List ℕ
 message Done = []

@@ -1,6 +1,5 @@
 -- Which configuration is in use, what it means that there is none, and what it means that a pin is not known.
 use Rattle.std.specs.Prelude.{◌≡◌, ◌↔◌, ℕ, ◌<◌, ℤ, Bool, List, length, slice_get, All, Contains, bytes_eq, Some, None, Result, Ok, Err}
-use Rattle.spec_io.specs.Documents.{Document as Named}
 use Rattle.spec_walk.specs.Limits.{Counts}
 use Rattle.spec_expressions.specs.Scope.{Configuration}
 use Rattle.spec_features.specs.Features.{Features, booleans}
@@ -15,6 +14,7 @@ use Rattle.spec_refutation.specs.LogReading.{Log, log_in}
 use Rattle.spec_command.specs.Pins.{Pin}
 use Rattle.spec_command.specs.Commands.{Release, Configured}
 use Rattle.spec_lines.specs.LogLine.{refuted_line}
+use Rattle.spec_run.specs.Documents.{Documents}
 use Rattle.spec_run.specs.Opening.{OpeningError, UnknownPin, NoneFits, pinned, set_opened, features_opened, features_given, configured, configuration_opened, machine_opened}
 use Rattle.spec_run.specs.Refutation.{IsRefutation}
 use Rattle.spec_run.specs.Logs.{Checked, of_text, log_line}
@@ -59,13 +59,13 @@ PinIsUnknown = (features : Features) (pins : List Pin) (i : ℕ) → (configured
 -- ---- what is opened
 
 -- the features that are given behind the names of the set of a release
-pub record AreGiven (release : Release) (asked : Configured) (docs : List Named) (features : Features) : Type 0 where
+pub record AreGiven (release : Release) (asked : Configured) (docs : Documents) (features : Features) : Type 0 where
   pub set : Node × Counts
   pub opened : set_opened release (pinned asked.pins) docs ≡ Ok set
   pub given : features_given asked.features asked.pins set.1.held docs ≡ Ok features
 
 -- the features of the document of that name
-abbrev pub AreOfDocument : List ℕ → List Pin → List Named → Features → Type 0
+abbrev pub AreOfDocument : List ℕ → List Pin → Documents → Features → Type 0
 AreOfDocument name pins docs features = (counts : Counts) × (features_opened name (pinned pins) docs ≡ Ok (features, counts))
 
 -- what is opened is under the first configuration that fits the features that are given; where it is told that none fits, or which
@@ -76,11 +76,11 @@ pub record Settled {A : Type 0} (Given : Features → Type 0) (pins : List Pin) 
   pub unknown : (i : ℕ) → result ≡ Err (UnknownPin i) → (features : Features) × Given features × IsUnknown features pins i
 
 abbrev pub InUseOnMachine : Type 0
-InUseOnMachine = (release : Release) (asked : Configured) (docs : List Named)
+InUseOnMachine = (release : Release) (asked : Configured) (docs : Documents)
     → Settled {A = Machine} (AreGiven release asked docs) asked.pins (λ machine. machine.configuration) (machine_opened release asked docs)
 
 abbrev pub InUseOfDocument : Type 0
-InUseOfDocument = (name : List ℕ) (pins : List Pin) (docs : List Named)
+InUseOfDocument = (name : List ℕ) (pins : List Pin) (docs : Documents)
     → Settled {A = Configuration} (AreOfDocument name pins docs) pins (λ g. g) (configuration_opened name pins docs)
 
 -- ---- refutations

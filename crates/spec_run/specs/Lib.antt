@@ -1,7 +1,9 @@
--- What a run of the program means, to be read in this order. How a run ends; what is opened, and how it is told that it is not; what
+-- What a run of the program means, to be read in this order. The kinds of documents, and what stands under their names; how a run ends; what is opened, and how it is told that it is not; what
 -- each command does, from `Work` to `Commands`; and what a run comes to. Then what each status says of the outside, from `Scene` to
 -- `Answers`. Then what these come to: what the statuses say together, the configuration in use, the way back from lines to words,
 -- and the listing theorem, which is put together from all of it.
+pub mod Kinds
+pub mod Documents
 pub mod End
 pub mod Opening
 pub mod Refutation

@@ -1,12 +1,13 @@
 -- A log is opened by its length and its text, and then checked.
 use Rattle.std.specs.Prelude.{ℕ, ℤ, List, length, Option, Some, None, Result}
 use Rattle.std.specs.Result.{result_map_both}
-use Rattle.spec_io.specs.Documents.{Document as Named, document_of}
 use Rattle.spec_refutation.specs.Derivation.{Step}
 use Rattle.spec_refutation.specs.Refutation.{failure}
 use Rattle.spec_refutation.specs.LogReading.{log_in}
 use Rattle.spec_lines.specs.LogLine.{refuted_line, fails_line}
-use Rattle.spec_run.specs.End.{Log, Syntax, Done}
+use Rattle.spec_run.specs.Kinds.{Log}
+use Rattle.spec_run.specs.Documents.{Documents}
+use Rattle.spec_run.specs.End.{Syntax, Done}
 use Rattle.spec_run.specs.Opening.{OpeningError, Refused, by_bytes}
 use Rattle.spec_run.specs.Work.{Outcome}
 
@@ -20,8 +21,8 @@ abbrev pub of_text : List ℕ → Result Checked OpeningError
 of_text text = result_map_both (λ log. record { clauses = log.clauses; steps = log.steps }) (λ at. Refused Log (Syntax at)) (log_in text)
 
 -- the log of a document of that name
-abbrev pub log_opened : List ℕ → List Named → Result Checked OpeningError
-log_opened name docs = by_bytes Log of_text (document_of name docs)
+abbrev pub log_opened : List ℕ → Documents → Result Checked OpeningError
+log_opened name docs = by_bytes Log of_text (docs Log name)
 
 -- the line of a log: the number at which it fails, or else that of its steps, which refute the clauses
 abbrev pub line_of : List Step → Option ℕ → List ℕ

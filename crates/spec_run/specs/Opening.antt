@@ -3,7 +3,6 @@ use Rattle.std.specs.Prelude.{ℕ, ℤ, List, [], length, map, bytes_eq, nat_lt,
 use Rattle.std.specs.Str.{is_utf8}
 use Rattle.serde_json.specs.Data.{Data}
 use Rattle.serde_json.specs.Read.{read}
-use Rattle.spec_io.specs.Documents.{Document as Named, document_of}
 use Rattle.spec_names.specs.Distinct.{distinct}
 use Rattle.spec_walk.specs.Event.{Fault}
 use Rattle.spec_walk.specs.Limits.{Counts}
@@ -21,14 +20,16 @@ use Rattle.spec_instructions.specs.Reading.{tree_read}
 use Rattle.spec_decode.specs.Machine.{Machine}
 use Rattle.spec_command.specs.Pins.{Pin}
 use Rattle.spec_command.specs.Commands.{Release, Configured}
-use Rattle.spec_run.specs.End.{Which, DocFault, Json, Schema, Insns, Features}
+use Rattle.spec_run.specs.Kinds.{DocumentKind, Insns, Features}
+use Rattle.spec_run.specs.Documents.{Documents}
+use Rattle.spec_run.specs.End.{DocFault, Json, Schema}
 
 -- why what a command names is not opened: a document is not there, or is too long, or is refused; a pin, by its number from 0,
 -- names no boolean parameter; or no configuration fits, which these clauses, over so many variables, say
 pub data OpeningError : Type 0 where
-  NotRead : Which → OpeningError
-  TooLong : Which → OpeningError
-  Refused : Which → DocFault → OpeningError
+  NotRead : DocumentKind → OpeningError
+  TooLong : DocumentKind → OpeningError
+  Refused : DocumentKind → DocFault → OpeningError
   UnknownPin : ℕ → OpeningError
   NoneFits : ℕ → List (List ℤ) → OpeningError
 
@@ -45,34 +46,34 @@ abbrev pub json_in : List ℕ → Option Data
 json_in bytes = if is_utf8 bytes then read bytes else None
 
 -- what a walk gives, or its first fault
-abbrev pub by_walk : {A : Type 0} → Which → Result A Fault → Result A OpeningError
-by_walk which (Ok x) = Ok x
-by_walk which (Err fault) = Err (Refused which (Schema fault))
+abbrev pub by_walk : {A : Type 0} → DocumentKind → Result A Fault → Result A OpeningError
+by_walk kind (Ok x) = Ok x
+by_walk kind (Err fault) = Err (Refused kind (Schema fault))
 
 -- what a value gives, where a text is read as one
-abbrev pub by_value : {A : Type 0} → Which → (Data → Result A Fault) → Option Data → Result A OpeningError
-by_value which walk None = Err (Refused which Json)
-by_value which walk (Some d) = by_walk which (walk d)
+abbrev pub by_value : {A : Type 0} → DocumentKind → (Data → Result A Fault) → Option Data → Result A OpeningError
+by_value kind walk None = Err (Refused kind Json)
+by_value kind walk (Some d) = by_walk kind (walk d)
 
 -- a document has at most 2^28 bytes
 abbrev pub document_limit : ℕ
 document_limit = 268435456
 
 -- what its bytes give, where a document is there and within the limit
-abbrev pub by_bytes : {A : Type 0} → Which → (List ℕ → Result A OpeningError) → Option (List ℕ) → Result A OpeningError
-by_bytes which given None = Err (NotRead which)
-by_bytes which given (Some bytes) = if nat_lt document_limit (length bytes) then Err (TooLong which) else given bytes
+abbrev pub by_bytes : {A : Type 0} → DocumentKind → (List ℕ → Result A OpeningError) → Option (List ℕ) → Result A OpeningError
+by_bytes kind given None = Err (NotRead kind)
+by_bytes kind given (Some bytes) = if nat_lt document_limit (length bytes) then Err (TooLong kind) else given bytes
 
 -- what a walk over the document of that name gives
-abbrev pub document_read : {A : Type 0} → Which → (Data → Result A Fault) → List ℕ → List Named → Result A OpeningError
-document_read which walk name docs = by_bytes which (λ bytes. by_value which walk (json_in bytes)) (document_of name docs)
+abbrev pub document_read : {A : Type 0} → DocumentKind → (Data → Result A Fault) → List ℕ → Documents → Result A OpeningError
+document_read kind walk name docs = by_bytes kind (λ bytes. by_value kind walk (json_in bytes)) (docs kind name)
 
 -- the tree of a set of instructions, with the counts behind the walk; these names have their numbers before it
-abbrev pub set_opened : Release → List (List ℕ) → List Named → Result (Node × Counts) OpeningError
+abbrev pub set_opened : Release → List (List ℕ) → Documents → Result (Node × Counts) OpeningError
 set_opened release held docs = document_read Insns (tree_read release.isa held) release.insns docs
 
 -- the features of a document, with the counts behind the walk
-abbrev pub features_opened : List ℕ → List (List ℕ) → List Named → Result (Theirs × Counts) OpeningError
+abbrev pub features_opened : List ℕ → List (List ℕ) → Documents → Result (Theirs × Counts) OpeningError
 features_opened name held docs = document_read Features (features_read held) name docs
 
 -- ---- features
@@ -82,7 +83,7 @@ abbrev pub pinned : List Pin → List (List ℕ)
 pinned pins = distinct (map (λ (pin : Pin). pin.0) pins)
 
 -- the features of the document, where one is named; else each pinned name is a parameter, and there is no constraint
-abbrev pub features_given : Option (List ℕ) → List Pin → List (List ℕ) → List Named → Result Theirs OpeningError
+abbrev pub features_given : Option (List ℕ) → List Pin → List (List ℕ) → Documents → Result Theirs OpeningError
 features_given None pins held docs = Ok (booleans_alone (pinned pins))
 features_given (Some name) pins held docs = features_opened name held docs then λ read. Ok read.0
 
@@ -104,7 +105,7 @@ abbrev pub configured : Theirs → List Pin → Result Configuration OpeningErro
 configured features pins = chosen (theory bytes_eq features) pins
 
 -- the configuration in use of the features of a document
-abbrev pub configuration_opened : List ℕ → List Pin → List Named → Result Configuration OpeningError
+abbrev pub configuration_opened : List ℕ → List Pin → Documents → Result Configuration OpeningError
 configuration_opened name pins docs = features_opened name (pinned pins) docs then λ read. configured read.0 pins
 
 -- ---- machines
@@ -114,7 +115,7 @@ abbrev pub machine_by : Node → Configuration → Machine
 machine_by set g = record { paths = paths_from [] set; aliases = aliases_in set; configuration = g }
 
 -- the set, then the features, behind the names of the set, and then the configuration in use
-abbrev pub machine_opened : Release → Configured → List Named → Result Machine OpeningError
+abbrev pub machine_opened : Release → Configured → Documents → Result Machine OpeningError
 machine_opened release asked docs =
     set_opened release (pinned asked.pins) docs then λ read.
     (features_given asked.features asked.pins read.1.held docs then λ features.

@@ -5,6 +5,7 @@ use Rattle.spec_io.specs.Documents.{Document as Named}
 use Rattle.spec_command.specs.Commands.{Request}
 use Rattle.spec_command.specs.Request.{request}
 use Rattle.spec_run.specs.End.{End, Usage, IsEarly}
+use Rattle.spec_run.specs.Documents.{under_names}
 use Rattle.spec_run.specs.Opening.{OpeningError}
 use Rattle.spec_run.specs.Refutation.{EndsBy}
 use Rattle.spec_run.specs.Work.{Outcome, outcome_of}
@@ -17,7 +18,7 @@ after_opening asked (Ok found) bytes = Ok (outcome_of (work_of asked found) byte
 
 abbrev pub of_request : Result Request ℕ → List Named → List ℕ → Result Outcome OpeningError
 of_request (Err place) docs bytes = Ok (record { end = Usage place; out = [] })
-of_request (Ok asked) docs bytes = after_opening asked (opened asked docs) bytes
+of_request (Ok asked) docs bytes = after_opening asked (opened asked (under_names docs)) bytes
 
 abbrev pub outcome : List (List ℕ) → List Named → List ℕ → Result Outcome OpeningError
 outcome words docs bytes = of_request (request words) docs bytes

@@ -3,7 +3,7 @@ use Rattle.std.specs.Prelude.{◌≡◌, ◌≤◌, ◌+◌, ℕ, List, take, If
 use Rattle.std.specs.Io.KnownBytes.{Consumes, IsAtEnd}
 use Rattle.spec_io.specs.Faults.{Rose}
 use Rattle.spec_io.specs.States.{Reading, Writing}
-use Rattle.spec_run.specs.End.{End, Done, Ragged, Usage, Document, Refuted, Question, ReadFault, WriteFault, Limit, NoMemory, Insns, Features, Log, Input}
+use Rattle.spec_run.specs.End.{End, Done, Ragged, Usage, Document, Refuted, Question, ReadFault, WriteFault, Limit, NoMemory, Of, Input}
 use Rattle.spec_run.specs.Work.{Outcome, Work, Once, Reads, Over}
 use Rattle.spec_run.specs.Scene.{Took, TookPrefix, TookShort, ReadsAtMost}
 
@@ -46,12 +46,8 @@ module _ (input input_after : Reading) (out out_after : Writing) where
   Meaning work (Usage place) = ⊥
   Meaning work (Document which fault) = ⊥
   Meaning work (Refuted steps log) = ⊥
-  Meaning work (ReadFault Insns) = ⊥
-  Meaning work (ReadFault Features) = ⊥
-  Meaning work (ReadFault Log) = ⊥
-  Meaning work (Limit Insns) = ⊥
-  Meaning work (Limit Features) = ⊥
-  Meaning work (Limit Log) = ⊥
+  Meaning work (ReadFault (Of kind)) = ⊥
+  Meaning work (Limit (Of kind)) = ⊥
 
   -- a source is read by the commands that read the stream alone, and at most one byte past the limit
   abbrev pub Looked : Work → Type 0

@@ -4,7 +4,7 @@ use Rattle.spec_refutation.specs.Derivation.{Step}
 use Rattle.spec_refutation.specs.Refutation.{Refutes}
 use Rattle.spec_refutation.specs.Reading.{IsLog}
 use Rattle.spec_refutation.specs.Text.{log_text}
-use Rattle.spec_run.specs.End.{End, Document, Refuted, Question, NoFeature, ReadFault, Limit}
+use Rattle.spec_run.specs.End.{End, Document, Refuted, Question, NoFeature, ReadFault, Limit, Of}
 use Rattle.spec_run.specs.Opening.{OpeningError, NotRead, TooLong, Refused, UnknownPin, NoneFits}
 
 -- a text is that of some log of so many steps which refutes the clauses, within the bounds of the format
@@ -17,8 +17,8 @@ pub record IsRefutation (variables : ℕ) (clauses : List (List ℤ)) (steps : �
 
 -- the ends by which a run may tell why nothing is opened
 abbrev pub EndsBy : OpeningError → End → Type 0
-EndsBy (NotRead which) end = end ≡ ReadFault which
-EndsBy (TooLong which) end = end ≡ Limit which
-EndsBy (Refused which fault) end = end ≡ Document which fault
+EndsBy (NotRead kind) end = end ≡ ReadFault (Of kind)
+EndsBy (TooLong kind) end = end ≡ Limit (Of kind)
+EndsBy (Refused kind fault) end = end ≡ Document (Of kind) fault
 EndsBy (UnknownPin pin) end = end ≡ Question (NoFeature pin)
 EndsBy (NoneFits variables clauses) end = (steps : ℕ) × (text : List ℕ) × (end ≡ Refuted steps text) × IsRefutation variables clauses steps text

@@ -3,7 +3,7 @@
 //! Definitions, in `specs/`, and laws about them, which have their proofs in `proofs/`.
 #![tactic(auto)]
 
-ghost use Rattle.spec_run.specs.Exact.{AnswersAreExact, RunsComplete, FaultsComeLate, PrefixesGoOut};
+ghost use Rattle.spec_run.specs.Exact.{AnswersAreExact, RunsComplete, FaultsComeLate, DocumentFaultsComeInOrder, PrefixesGoOut};
 ghost use Rattle.spec_run.specs.Fields.{OpenedFieldsTellWord};
 ghost use Rattle.spec_run.specs.First.{FirstIsInUse, NoneIsInUse, PinIsUnknown, InUseOnMachine, InUseOfDocument, RefutationsAreChecked, RefutationsAreTold};
 ghost use Rattle.spec_run.specs.RoundTrip.{BareLinesAreAssembled, ListsAreAssembled};
@@ -21,10 +21,12 @@ pub fn runs_complete()
     ensures { RunsComplete }
 {}
 
-/// A law on what statuses say: over a shelf and a source that tell their contents, a fault of the stream or of the sink
-/// for lines comes only where nothing that comes before the stream decides.
+/// Laws on what statuses say: over a shelf and a source that tell their contents, a fault of the stream or of the sink
+/// for lines comes only where nothing that comes before the stream decides; and over a shelf that tells its documents,
+/// a fault of a document comes only where the words are not refused, and no document before it in the order of work.
 pub fn faults_come_late()
-    ensures { FaultsComeLate }
+    ensures stream { FaultsComeLate }
+    ensures documents { DocumentFaultsComeInOrder }
 {}
 
 /// A law on what statuses say: over a shelf and a source that tell their contents, a prefix of the outcome's bytes went

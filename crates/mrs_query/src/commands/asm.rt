@@ -2,22 +2,18 @@
 ghost use Rattle.std.specs.Prelude.{◌≡◌, ◌≤◌, ◌^◌, [], length, IfOk, OnErr};
 ghost use Rattle.spec_command.specs.Commands.{AskAsm, pin_limit};
 ghost use Rattle.spec_run.specs.End.{IsEarly};
-ghost use Rattle.spec_run.specs.Work.{Reads};
-ghost use Rattle.spec_run.specs.Assembling.{asm_work};
-ghost use Rattle.spec_run.specs.Ran.{Ran};
 ghost use Rattle.mrs_command.specs.Commands.{release_of, configured_of};
-ghost use Rattle.mrs_query.specs.End.{end_of};
-ghost use Rattle.mrs_query.specs.Assembled.{IsReasonText, TellsLine, TellsAssembly};
+ghost use Rattle.mrs_query.specs.End.{bare_end};
+ghost use Rattle.mrs_query.specs.Assembled.{IsReasonText, TellsLine, TellsAssembly, AssembledAs};
 ghost use Rattle.mrs_query.specs.Fulfilled.{Fulfils};
-ghost use Rattle.mrs_query.specs.Runs.{HasText, told_as};
 
 use crate::ended::Ended;
-use crate::{QuestionFault, Status};
+use crate::{QuestionFault, Status, Which};
 use asm_stream::assemble_stream;
 use list_words::{LineFault, Lister, push_reason};
 use mrs_command::{Configured, Release};
 use mrs_io::{Shelf, Sink, Source};
-use release_opening::{Opened, OpeningError, Which, open_release};
+use release_opening::{Opened, OpeningError, open_release};
 use std::alloc::{AllocError, Global};
 
 /// Opens a set under a configuration, and assembles the lines of at most `max` bytes of the stream.
@@ -40,8 +36,7 @@ pub(crate) fn fulfil<V: Shelf, S: Source, K: Sink>(
       out = K.writing out.old;
       out_after = K.writing out.new;
     }) result }
-    ensures text { IfOk result (λ ended. HasText ended.status ended.text.items) }
-    ensures late { IfOk result (λ ended. ¬ IsEarly (end_of ended.status [])) }
+    ensures late { IfOk result (λ ended. ¬ IsEarly (bare_end ended.status)) }
     ensures unopened { OnErr result ((input.new ≡ input.old) × (out.new ≡ out.old)) }
 {
     let opened = open_release(alloc, shelf, release, configured)?;
@@ -57,10 +52,9 @@ fn assemble<S: Source, K: Sink>(
     out: &mut K,
 ) -> Ended
     requires { max ≤ 2 ^ 40 }
-    ensures ran { Ran (S.reading input.old) (S.reading input.new) (K.writing out.old) (K.writing out.new)
-        (Reads (asm_work opened.now max)) (told_as result) }
-    ensures text { HasText result.status result.text.items }
-    ensures late { ¬ IsEarly (end_of result.status []) }
+    ensures assembled { AssembledAs opened.now max (S.reading input.old) (S.reading input.new)
+        (K.writing out.old) (K.writing out.new) result }
+    ensures late { ¬ IsEarly (bare_end result.status) }
 {
     let lister = opened.lister(true);
     let how = assemble_stream(alloc, &lister, max, input, out);
@@ -70,7 +64,7 @@ fn assemble<S: Source, K: Sink>(
 /// The end by an assembly that ended so.
 fn assembled(alloc: Global, lister: &Lister<'_>, how: asm_stream::Ended) -> Ended
     ensures tells { TellsAssembly lister.now how result }
-    ensures late { ¬ IsEarly (end_of result.status []) }
+    ensures late { ¬ IsEarly (bare_end result.status) }
 {
     let status = match how {
         asm_stream::Ended::Line { number, fault } => {
@@ -92,7 +86,7 @@ fn assembled(alloc: Global, lister: &Lister<'_>, how: asm_stream::Ended) -> Ende
 /// The end by a line that is refused, with the text of the reason.
 fn bad_line(alloc: Global, lister: &Lister<'_>, line: u64, fault: LineFault) -> Ended
     ensures tells { TellsLine lister.now line fault result }
-    ensures late { ¬ IsEarly (end_of result.status []) }
+    ensures late { ¬ IsEarly (bare_end result.status) }
 {
     let Ok(text) = reason_text(alloc, lister, &fault) else {
         return Ended::plainly(alloc, Status::NoMemory);

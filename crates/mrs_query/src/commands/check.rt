@@ -5,10 +5,10 @@ ghost use Rattle.spec_run.specs.End.{IsEarly};
 ghost use Rattle.spec_run.specs.Checking.{count_text, set_line, features_line, check_outcome};
 ghost use Rattle.mrs_command.specs.Commands.{checks_of};
 ghost use Rattle.release_opening.specs.Counted.{set_of, features_of, counted_of};
-ghost use Rattle.mrs_query.specs.End.{end_of};
+ghost use Rattle.mrs_query.specs.End.{bare_end};
 ghost use Rattle.mrs_query.specs.Fulfilled.{FulfilsOnce};
 ghost use Rattle.mrs_query.specs.Once.{EndsOnce};
-ghost use Rattle.mrs_query.specs.Runs.{HasText};
+ghost use Rattle.mrs_query.specs.Runs.{IsPlain};
 
 use crate::Status;
 use crate::ended::Ended;
@@ -28,8 +28,7 @@ pub(crate) fn fulfil<V: Shelf, K: Sink>(
 ) -> Result<Ended, OpeningError>
     ensures fulfils { FulfilsOnce (AskCheck (checks_of checks.entry)) (V.shelving shelf.old) (V.shelving shelf.new)
         (K.writing out.old) (K.writing out.new) result }
-    ensures text { IfOk result (λ ended. HasText ended.status ended.text.items) }
-    ensures late { IfOk result (λ ended. ¬ IsEarly (end_of ended.status [])) }
+    ensures late { IfOk result (λ ended. ¬ IsEarly (bare_end ended.status)) }
     ensures unopened { OnErr result (out.new ≡ out.old) }
 {
     let counted = open_checks(alloc, shelf, checks)?;
@@ -39,9 +38,9 @@ pub(crate) fn fulfil<V: Shelf, K: Sink>(
 
 /// Writes the line of each document.
 fn show_counts<K: Sink>(alloc: Global, counted: &Counted, out: &mut K) -> Status
-    ensures ended { EndsOnce (K.writing out.old) (K.writing out.new) (check_outcome (counted_of counted.now)) (end_of result []) }
-    ensures plain { HasText result [] }
-    ensures late { ¬ IsEarly (end_of result []) }
+    ensures ended { EndsOnce (K.writing out.old) (K.writing out.new) (check_outcome (counted_of counted.now)) (bare_end result) }
+    ensures plain { IsPlain result }
+    ensures late { ¬ IsEarly (bare_end result) }
 {
     put_out(lines_of(alloc, counted), out)
 }

@@ -3,10 +3,10 @@ ghost use Rattle.std.specs.Prelude.{◌≡◌, ◌≤◌, [], length, IfOk, OnEr
 ghost use Rattle.spec_command.specs.Commands.{AskConfig, pin_limit};
 ghost use Rattle.spec_run.specs.End.{IsEarly};
 ghost use Rattle.spec_run.specs.Configuring.{configuration_lines, config_outcome};
-ghost use Rattle.mrs_query.specs.End.{end_of};
+ghost use Rattle.mrs_query.specs.End.{bare_end};
 ghost use Rattle.mrs_query.specs.Fulfilled.{FulfilsOnce};
 ghost use Rattle.mrs_query.specs.Once.{EndsOnce};
-ghost use Rattle.mrs_query.specs.Runs.{HasText};
+ghost use Rattle.mrs_query.specs.Runs.{IsPlain};
 
 use crate::Status;
 use crate::ended::Ended;
@@ -27,8 +27,7 @@ pub(crate) fn fulfil<V: Shelf, K: Sink>(
     requires { length pins ≤ pin_limit }
     ensures fulfils { FulfilsOnce (AskConfig features.now pins.entry) (V.shelving shelf.old) (V.shelving shelf.new)
         (K.writing out.old) (K.writing out.new) result }
-    ensures text { IfOk result (λ ended. HasText ended.status ended.text.items) }
-    ensures late { IfOk result (λ ended. ¬ IsEarly (end_of ended.status [])) }
+    ensures late { IfOk result (λ ended. ¬ IsEarly (bare_end ended.status)) }
     ensures unopened { OnErr result (out.new ≡ out.old) }
 {
     let opened = open_configuration(alloc, shelf, features, pins)?;
@@ -42,9 +41,9 @@ fn show_configuration<K: Sink>(
     configuration: &OpenedConfiguration,
     out: &mut K,
 ) -> Status
-    ensures ended { EndsOnce (K.writing out.old) (K.writing out.new) (config_outcome configuration.now) (end_of result []) }
-    ensures plain { HasText result [] }
-    ensures late { ¬ IsEarly (end_of result []) }
+    ensures ended { EndsOnce (K.writing out.old) (K.writing out.new) (config_outcome configuration.now) (bare_end result) }
+    ensures plain { IsPlain result }
+    ensures late { ¬ IsEarly (bare_end result) }
 {
     put_out(lines_of(alloc, configuration), out)
 }

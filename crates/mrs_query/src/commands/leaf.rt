@@ -6,10 +6,10 @@ ghost use Rattle.spec_lines.specs.LeafFields.{whole_leaf};
 ghost use Rattle.spec_run.specs.End.{IsEarly};
 ghost use Rattle.spec_run.specs.Commands.{leaf_outcome};
 ghost use Rattle.mrs_command.specs.Commands.{release_of};
-ghost use Rattle.mrs_query.specs.End.{end_of};
+ghost use Rattle.mrs_query.specs.End.{bare_end};
 ghost use Rattle.mrs_query.specs.Fulfilled.{FulfilsOnce, IsOfWork};
 ghost use Rattle.mrs_query.specs.Once.{EndsOnce};
-ghost use Rattle.mrs_query.specs.Runs.{HasText};
+ghost use Rattle.mrs_query.specs.Runs.{IsPlain};
 
 use crate::ended::Ended;
 use crate::output::put_out;
@@ -30,8 +30,7 @@ pub(crate) fn fulfil<V: Shelf, K: Sink>(
 ) -> Result<Ended, OpeningError>
     ensures fulfils { FulfilsOnce (AskLeaf (release_of release.entry) label.now) (V.shelving shelf.old) (V.shelving shelf.new)
         (K.writing out.old) (K.writing out.new) result }
-    ensures text { IfOk result (λ ended. HasText ended.status ended.text.items) }
-    ensures early { MatchResult result (λ ended. IsEarly (end_of ended.status []) → out.new ≡ out.old) (λ _. out.new ≡ out.old) }
+    ensures early { MatchResult result (λ ended. IsEarly (bare_end ended.status) → out.new ≡ out.old) (λ _. out.new ≡ out.old) }
 {
     let opened = open_set(alloc, shelf, release)?;
     let status = show_leaf(alloc, &opened, label, out);
@@ -41,10 +40,10 @@ pub(crate) fn fulfil<V: Shelf, K: Sink>(
 /// Writes the lines of the leaf with that label.
 fn show_leaf<K: Sink>(alloc: Global, opened: &Opened, label: &str, out: &mut K) -> Status
     ensures ended { EndsOnce (K.writing out.old) (K.writing out.new)
-        (leaf_outcome opened.now (labelled_leaf opened.now.paths label.now)) (end_of result []) }
-    ensures work { IsOfWork (end_of result []) }
-    ensures plain { HasText result [] }
-    ensures early { IsEarly (end_of result []) → out.new ≡ out.old }
+        (leaf_outcome opened.now (labelled_leaf opened.now.paths label.now)) (bare_end result) }
+    ensures work { IsOfWork (bare_end result) }
+    ensures plain { IsPlain result }
+    ensures early { IsEarly (bare_end result) → out.new ≡ out.old }
 {
     let Some(leaf) = opened.find_label(label) else {
         return Status::Question {

@@ -8,16 +8,16 @@ ghost use Rattle.spec_run.specs.Listing.{list_work};
 ghost use Rattle.spec_run.specs.Ran.{Ran};
 ghost use Rattle.mrs_command.specs.Commands.{release_of, configured_of};
 ghost use Rattle.list_stream.specs.Endings as listing;
-ghost use Rattle.mrs_query.specs.End.{end_of};
+ghost use Rattle.mrs_query.specs.End.{bare_end};
 ghost use Rattle.mrs_query.specs.Fulfilled.{Fulfils};
-ghost use Rattle.mrs_query.specs.Runs.{HasText};
+ghost use Rattle.mrs_query.specs.Runs.{IsPlain};
 
-use crate::Status;
 use crate::ended::Ended;
+use crate::{Status, Which};
 use list_stream::list_stream;
 use mrs_command::{Configured, Release};
 use mrs_io::{Shelf, Sink, Source};
-use release_opening::{Opened, OpeningError, Which, open_release};
+use release_opening::{Opened, OpeningError, open_release};
 use std::alloc::Global;
 
 /// Opens a set under a configuration, and lists the words of at most `max` bytes of the stream.
@@ -41,8 +41,7 @@ pub(crate) fn fulfil<V: Shelf, S: Source, K: Sink>(
       out = K.writing out.old;
       out_after = K.writing out.new;
     }) result }
-    ensures text { IfOk result (λ ended. HasText ended.status ended.text.items) }
-    ensures late { IfOk result (λ ended. ¬ IsEarly (end_of ended.status [])) }
+    ensures late { IfOk result (λ ended. ¬ IsEarly (bare_end ended.status)) }
     ensures unopened { OnErr result ((input.new ≡ input.old) × (out.new ≡ out.old)) }
 {
     let opened = open_release(alloc, shelf, release, configured)?;
@@ -61,18 +60,18 @@ fn show_words<S: Source, K: Sink>(
 ) -> Status
     requires { max ≤ 2 ^ 40 }
     ensures ran { Ran (S.reading input.old) (S.reading input.new) (K.writing out.old) (K.writing out.new)
-        (Reads (list_work (form_by bare) opened.now max)) (end_of result []) }
-    ensures plain { HasText result [] }
-    ensures late { ¬ IsEarly (end_of result []) }
+        (Reads (list_work (form_by bare) opened.now max)) (bare_end result) }
+    ensures plain { IsPlain result }
+    ensures late { ¬ IsEarly (bare_end result) }
 {
     listed(list_stream(alloc, &opened.lister(bare), max, input, out))
 }
 
 /// The status of a listing that ended.
 fn listed(ended: list_stream::Ended) -> Status
-    ensures end { end_of result [] ≡ listing.end_of ended }
-    ensures plain { HasText result [] }
-    ensures late { ¬ IsEarly (end_of result []) }
+    ensures end { bare_end result ≡ listing.end_of ended }
+    ensures plain { IsPlain result }
+    ensures late { ¬ IsEarly (bare_end result) }
 {
     match ended {
         list_stream::Ended::Done => Status::Done,

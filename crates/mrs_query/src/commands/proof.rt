@@ -4,10 +4,10 @@ ghost use Rattle.spec_command.specs.Commands.{AskProof};
 ghost use Rattle.spec_run.specs.End.{IsEarly};
 ghost use Rattle.spec_run.specs.Logs.{log_line, log_outcome};
 ghost use Rattle.release_opening.specs.Verdict.{line_by};
-ghost use Rattle.mrs_query.specs.End.{end_of};
+ghost use Rattle.mrs_query.specs.End.{bare_end};
 ghost use Rattle.mrs_query.specs.Fulfilled.{FulfilsOnce};
 ghost use Rattle.mrs_query.specs.Once.{EndsOnce};
-ghost use Rattle.mrs_query.specs.Runs.{HasText};
+ghost use Rattle.mrs_query.specs.Runs.{IsPlain};
 
 use crate::Status;
 use crate::ended::Ended;
@@ -27,8 +27,7 @@ pub(crate) fn fulfil<V: Shelf, K: Sink>(
 ) -> Result<Ended, OpeningError>
     ensures fulfils { FulfilsOnce (AskProof log.now) (V.shelving shelf.old) (V.shelving shelf.new)
         (K.writing out.old) (K.writing out.new) result }
-    ensures text { IfOk result (λ ended. HasText ended.status ended.text.items) }
-    ensures late { IfOk result (λ ended. ¬ IsEarly (end_of ended.status [])) }
+    ensures late { IfOk result (λ ended. ¬ IsEarly (bare_end ended.status)) }
     ensures unopened { OnErr result (out.new ≡ out.old) }
 {
     let opened = open_log(alloc, shelf, log)?;
@@ -38,9 +37,9 @@ pub(crate) fn fulfil<V: Shelf, K: Sink>(
 
 /// Checks a log, and writes the line that says whether it refutes its clauses, or where it fails.
 fn check_log<K: Sink>(alloc: Global, opened: &OpenedLog, out: &mut K) -> Status
-    ensures ended { EndsOnce (K.writing out.old) (K.writing out.new) (log_outcome opened.now) (end_of result []) }
-    ensures plain { HasText result [] }
-    ensures late { ¬ IsEarly (end_of result []) }
+    ensures ended { EndsOnce (K.writing out.old) (K.writing out.new) (log_outcome opened.now) (bare_end result) }
+    ensures plain { IsPlain result }
+    ensures late { ¬ IsEarly (bare_end result) }
 {
     put_out(line_of(alloc, opened), out)
 }

@@ -1,9 +1,9 @@
-use Rattle.std.proofs.Common.{sym, ap, subst, is_some, option_map, Some, Ok}
+use Rattle.std.proofs.Common.{sym, ap, subst, option_map, Option, Some, Ok, Err}
 use Rattle.std.proofs.lemmas.Result.{err_from_is_err_and}
-use Rattle.spec_run.specs.Checking.{features_counted}
-use Rattle.spec_run.specs.Commands.{of_checks}
+use Rattle.spec_run.specs.Checking.{FeatureCounts, features_counted}
+use Rattle.spec_run.specs.Kinds.{Features, named}
 use Rattle.release_opening.specs.Counted.{features_of}
-use Rattle.release_opening.specs.Opens.{Opens}
+use Rattle.release_opening.specs.Opens.{Opens, IsOf}
 use Rattle.release_opening.proofs.CheckLaws.{features_found}
 use Rattle.release_opening.proofs.CountLaws.{features_told}
 use Rattle.release_opening.proofs.checking.count_features.Goals as goal
@@ -11,7 +11,7 @@ use Rattle.release_opening.proofs.checking.count_features.Goals as goal
 pub returns-in_err-features-clause-named : goal.returns-in_err-features-clause-named
 returns-in_err-features-clause-named g c =
     let p = err_from_is_err_and c.from_residual.result c.from_residual.ensures.1 in
-    λ insns. rw (p.1, p.2) (c.in_err-features.ensures.named (of_checks insns (is_some c.args.name)) (ap is_some c.in-Some.is))
+    rw (p.1, p.2) (subst (λ name. IsOf {A = Option FeatureCounts} (named Features name) (Err c.in_err-features.field-0.0)) (sym (ap (option_map (λ n. n.now)) c.in-Some.is)) c.in_err-features.ensures.named)
 
 pub returns-clause-opens : goal.returns-clause-opens
 returns-clause-opens g c =

@@ -1,12 +1,12 @@
-use Rattle.std.proofs.Common.{sym, ap, subst, is_some, option_map, Some, Ok}
+use Rattle.std.proofs.Common.{sym, ap, subst, option_map, ℕ, List, Option, Some, Ok, Err}
 use Rattle.std.proofs.lemmas.Result.{err_from_is_err_and}
 use Rattle.spec_command.specs.Commands.{Release}
 use Rattle.spec_run.specs.Opening.{set_opened}
-use Rattle.spec_run.specs.Checking.{set_counted}
-use Rattle.spec_run.specs.Commands.{of_checks}
+use Rattle.spec_run.specs.Checking.{SetCounts, set_counted}
+use Rattle.spec_run.specs.Kinds.{Insns, named}
 use Rattle.mrs_command.specs.Commands.{checks_of}
 use Rattle.release_opening.specs.Counted.{set_of}
-use Rattle.release_opening.specs.Opens.{Opens}
+use Rattle.release_opening.specs.Opens.{Opens, IsOf}
 use Rattle.release_opening.proofs.CheckLaws.{set_found}
 use Rattle.release_opening.proofs.CountLaws.{set_told}
 use Rattle.release_opening.proofs.checking.count_set.Goals as goal
@@ -14,7 +14,7 @@ use Rattle.release_opening.proofs.checking.count_set.Goals as goal
 pub returns-in_err-arena-clause-named : goal.returns-in_err-arena-clause-named
 returns-in_err-arena-clause-named g c =
     let p = err_from_is_err_and c.from_residual.result c.from_residual.ensures.1 in
-    λ features. rw (p.1, p.2) (c.in_err-arena.ensures.named (of_checks (is_some c.args.asked.insns) features) (ap is_some c.in-Some.is))
+    rw (p.1, p.2) (subst (λ name. IsOf {A = Option SetCounts × List (List ℕ)} (named Insns name) (Err c.in_err-arena.field-0.0)) (sym (ap (option_map (λ n. n.now)) c.in-Some.is)) c.in_err-arena.ensures.named)
 
 pub returns-clause-opens : goal.returns-clause-opens
 returns-clause-opens g c =

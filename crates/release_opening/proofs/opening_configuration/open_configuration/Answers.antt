@@ -1,8 +1,8 @@
-use Rattle.std.proofs.Common.{refl, sym, subst, true, false}
+use Rattle.std.proofs.Common.{sym, subst, [], ◌∷◌}
 use Rattle.std.proofs.lemmas.Result.{err_from_is_err_and}
 use Rattle.features_reader.specs.FeatureViews.{features_in}
 use Rattle.spec_run.specs.Opening.{configured}
-use Rattle.spec_run.specs.Commands.{of_checks}
+use Rattle.spec_run.specs.Kinds.{Features}
 use Rattle.release_opening.specs.Pinned.{ArePins}
 use Rattle.release_opening.proofs.PinLaws.{pins_later}
 use Rattle.release_opening.proofs.ReleaseLaws.{configuration_comes, comes_named}
@@ -11,7 +11,7 @@ use Rattle.release_opening.proofs.opening_configuration.open_configuration.Goals
 pub returns-in_err-features-clause-named : goal.returns-in_err-features-clause-named
 returns-in_err-features-clause-named g c =
     let p = err_from_is_err_and c.from_residual-in_err-features.result c.from_residual-in_err-features.ensures.1 in
-    rw (p.1, p.2) (c.in_err-features.ensures.named (of_checks false true) refl)
+    rw (p.1, p.2) c.in_err-features.ensures.named
 
 pub returns-clause-opens : goal.returns-clause-opens
 returns-clause-opens g c =
@@ -29,4 +29,4 @@ returns-clause-named g c =
     let asked = c.args.pins in
     let names = c.open_features.new.names in
     let pins = subst (λ ps. ArePins names ps asked) (sym c.deref.ensures.value) (pins_later c.in_ok-names.field-0.names names c.in_ok-features.ensures.kept c.in_ok-names.field-0.pins.items asked c.in_ok-names.ensures.pins_are) in
-    comes_named (configured (features_in names c.in_ok-features.features) asked) (of_checks false true) c.configure_by.result (c.configure_by.ensures asked pins)
+    comes_named (configured (features_in names c.in_ok-features.features) asked) (Features ∷ []) c.configure_by.result (c.configure_by.ensures asked pins)

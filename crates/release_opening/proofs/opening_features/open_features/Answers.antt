@@ -1,7 +1,7 @@
 use Rattle.std.proofs.Common.{◌∙◌, Ok, ap, sym}
 use Rattle.std.proofs.lemmas.Result.{err_from_is_err_and}
 use Rattle.spec_features.specs.Reading.{features_read}
-use Rattle.spec_run.specs.End.{Features}
+use Rattle.spec_run.specs.Kinds.{Features}
 use Rattle.spec_run.specs.Opening.{json_in, by_value}
 use Rattle.release_opening.proofs.DocumentLaws.{unopened, read_so}
 use Rattle.release_opening.proofs.opening_features.open_features.Goals as goal
@@ -15,7 +15,7 @@ returns-in_err-bytes-clause-opens g c =
 pub returns-in_err-bytes-clause-named : goal.returns-in_err-bytes-clause-named
 returns-in_err-bytes-clause-named g c =
     let p = err_from_is_err_and c.from_residual.result c.from_residual.ensures.1 in
-    λ asked is. rw (p.1, p.2) (c.in_err-bytes.ensures.named asked is)
+    rw (p.1, p.2) c.in_err-bytes.ensures.named
 
 pub returns-in-Ok-clause-opens : goal.returns-in-Ok-clause-opens
 returns-in-Ok-clause-opens g c =

@@ -1,5 +1,5 @@
 use Rattle.std.proofs.Common.{refl, ap, length}
-use Rattle.spec_run.specs.End.{Features}
+use Rattle.spec_run.specs.Kinds.{Features}
 use Rattle.spec_run.specs.Opening.{by_walk}
 use Rattle.features_reader.specs.FeatureViews.{features_in}
 use Rattle.features_reader.specs.FeaturesRead.{with_expressions}

@@ -1,8 +1,6 @@
-use Rattle.std.proofs.Common.{refl}
 use Rattle.std.proofs.lemmas.Result.{err_from_is_err_and}
-use Rattle.spec_run.specs.End.{Log}
+use Rattle.spec_run.specs.Kinds.{Log}
 use Rattle.spec_run.specs.Logs.{of_text}
-use Rattle.spec_run.specs.Commands.{is_log}
 use Rattle.release_opening.proofs.DocumentLaws.{unopened}
 use Rattle.release_opening.proofs.opening_log.open_log.Goals as goal
 
@@ -15,4 +13,4 @@ returns-in_err-bytes-clause-opens g c =
 pub returns-in_err-bytes-clause-named : goal.returns-in_err-bytes-clause-named
 returns-in_err-bytes-clause-named g c =
     let p = err_from_is_err_and c.from_residual.result c.from_residual.ensures.1 in
-    rw (p.1, p.2) (c.in_err-bytes.ensures.named is_log refl)
+    rw (p.1, p.2) c.in_err-bytes.ensures.named

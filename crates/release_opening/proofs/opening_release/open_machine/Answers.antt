@@ -1,6 +1,7 @@
 use Rattle.std.proofs.Common.{◌∙◌, sym, ap, option_map, Ok, Err}
 use Rattle.std.proofs.lemmas.Result.{err_from_is_err_and}
 use Rattle.spec_decode.specs.Machine.{Machine}
+use Rattle.spec_run.specs.Kinds.{Features, named}
 use Rattle.spec_run.specs.Opening.{◌then◌, configured, machine_by}
 use Rattle.mrs_arena.specs.Placed.{text_of}
 use Rattle.mrs_arena.proofs.HeldLaws.{AreHeld-extended}
@@ -14,7 +15,7 @@ use Rattle.release_opening.proofs.opening_release.open_machine.Goals as goal
 pub returns-in_err-features-clause-named : goal.returns-in_err-features-clause-named
 returns-in_err-features-clause-named g c =
     let p = err_from_is_err_and c.from_residual.result c.from_residual.ensures.1 in
-    λ asked named. rw (p.1, p.2) (c.in_err-features.ensures.named asked named)
+    rw (p.1, p.2) c.in_err-features.ensures.named
 
 pub choose-requires-clause-sound : goal.choose-requires-clause-sound
 choose-requires-clause-sound g c =
@@ -47,7 +48,7 @@ returns-in_err-config-clause-named g c =
     let pins = c.args.pins.now in
     let own = pins_in c.args.names pins in
     let later = pins_later c.args.names names c.in_ok-features.ensures.kept pins own (are_their_own c.args.names pins c.requires.pins) in
-    λ asked named. rw (p.1, p.2) (comes_is_of Machine (configured (features_in names c.in_ok-features.features) own) asked c.in_err-config.field-0.0 (c.in_err-config.ensures.chosen own later))
+    rw (p.1, p.2) (comes_is_of Machine (configured (features_in names c.in_ok-features.features) own) (named Features (option_map (λ n. n.now) c.args.features)) c.in_err-config.field-0.0 (c.in_err-config.ensures.chosen own later))
 
 pub search_through-requires-clause-nodes : goal.search_through-requires-clause-nodes
 search_through-requires-clause-nodes g c = AreHeld-extended c.args.names c.give_features.new.names c.args.arena.nodes c.in_ok-features.ensures.kept c.requires.nodes

@@ -1,11 +1,12 @@
-use Rattle.std.proofs.Common.{refl, sym, subst, ◌<◌, ℕ, length, is_some}
+use Rattle.std.proofs.Common.{sym, subst, ◌<◌, ℕ, [], ◌∷◌, length}
 use Rattle.std.specs.List.{AllByRecursion}
 use Rattle.std.proofs.lemmas.Result.{err_from_is_err_and}
 use Rattle.spec_features.specs.Fits.{PinOf}
-use Rattle.spec_run.specs.Commands.{of_release}
+use Rattle.spec_run.specs.Kinds.{Insns, Features, named}
 use Rattle.mrs_command.specs.Commands.{release_of, configured_of}
 use Rattle.release_opening.specs.Pinned.{ArePins}
 use Rattle.release_opening.proofs.PinLaws.{pins_later, held_kept}
+use Rattle.release_opening.proofs.KindLaws.{of_front, result_of_back}
 use Rattle.release_opening.proofs.ReleaseLaws.{set_fails, release_opens}
 use Rattle.release_opening.proofs.opening_release.open_release.Goals as goal
 
@@ -19,7 +20,7 @@ returns-in_err-arena-clause-opens g c =
 pub returns-in_err-arena-clause-named : goal.returns-in_err-arena-clause-named
 returns-in_err-arena-clause-named g c =
     let p = err_from_is_err_and c.from_residual-in_err-arena.result c.from_residual-in_err-arena.ensures.1 in
-    rw (p.1, p.2) (c.in_err-arena.ensures.named (of_release (is_some c.args.asked.features)) refl)
+    rw (p.1, p.2) (of_front _ _ (Insns ∷ []) (named Features (configured_of c.args.asked).features) c.in_err-arena.field-0.0 c.in_err-arena.ensures.named)
 
 pub open_machine-requires-clause-pins : goal.open_machine-requires-clause-pins
 open_machine-requires-clause-pins g c =
@@ -37,7 +38,7 @@ returns-clause-opens g c =
     let pins = subst (λ ps. ArePins names ps asked.pins) (sym c.deref.ensures.value) (pins_later before names read.kept c.in_ok-names.field-0.pins.items asked.pins c.in_ok-names.ensures.pins_are) in
     release_opens (release_of c.args.release) asked before c.in_ok-names.ensures.names_are
     (g.V.Shelf.shelving c.args.shelf.now) (g.V.Shelf.shelving c.open_arena.new.shelf) (g.V.Shelf.shelving c.open_machine.new.shelf)
-    s.value c.open_machine.result read.same s.is (c.open_machine.ensures.opens asked.pins s.value pins s.stands)
+    s.value c.open_machine.result read.same s.is c.open_machine.ensures.named (c.open_machine.ensures.opens asked.pins s.value pins s.stands)
 
 pub returns-clause-named : goal.returns-clause-named
-returns-clause-named g c = c.open_machine.ensures.named (of_release (is_some c.args.asked.features)) (λ is. is)
+returns-clause-named g c = result_of_back _ (Insns ∷ []) (named Features (configured_of c.args.asked).features) c.open_machine.result c.open_machine.ensures.named

@@ -1,5 +1,5 @@
 use Rattle.std.proofs.Common.{refl, sym, ap}
-use Rattle.spec_run.specs.End.{Insns}
+use Rattle.spec_run.specs.Kinds.{Insns}
 use Rattle.spec_run.specs.Opening.{by_walk}
 use Rattle.mrs_arena.proofs.TreePaths.{paths_of_tree}
 use Rattle.mrs_arena.proofs.AliasPaths.{aliases_of_tree}

@@ -2,6 +2,7 @@ use Rattle.std.proofs.Common.{refl}
 use Rattle.std.proofs.KnownBytes.{Keeps-refl}
 use Rattle.std.proofs.lemmas.Result.{err_from_is_err_and}
 use Rattle.std.specs.Prelude.{[]}
+use Rattle.spec_lines.specs.LineFault.{Long}
 use Rattle.spec_command.specs.Commands.{AskConfig}
 use Rattle.mrs_query.proofs.Fulfilling.{late_of_work, work_done_plainly, not_opened}
 use Rattle.mrs_query.proofs.commands.config.fulfil.Goals as goal
@@ -15,4 +16,4 @@ returns-in_err-opened-clause-fulfils g c = λ input.
 pub returns-clause-fulfils : goal.returns-clause-fulfils
 returns-clause-fulfils g c = λ input.
     let o = c.in_ok-opened in
-    work_done_plainly _ (AskConfig c.args.features.now c.args.pins) o.opened c.show_configuration-status.result c.plainly.result c.plainly.ensures o.ensures.opens o.ensures.same (late_of_work c.show_configuration-status.result [] c.show_configuration-status.ensures.late) (c.show_configuration-status.ensures.ended input)
+    work_done_plainly _ (AskConfig c.args.features.now c.args.pins) o.opened c.show_configuration-status.result c.plainly.result c.plainly.ensures c.show_configuration-status.ensures.plain o.ensures.opens o.ensures.same (late_of_work c.show_configuration-status.result Long [] c.show_configuration-status.ensures.late) (c.show_configuration-status.ensures.ended input)

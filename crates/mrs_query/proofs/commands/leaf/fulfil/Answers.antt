@@ -15,4 +15,4 @@ returns-in_err-opened-clause-fulfils g c = λ input.
 pub returns-clause-fulfils : goal.returns-clause-fulfils
 returns-clause-fulfils g c = λ input.
     let o = c.in_ok-opened in
-    work_done_plainly _ (AskLeaf (release_of c.args.release) c.args.label.now) o.opened c.show_leaf-status.result c.plainly.result c.plainly.ensures o.ensures.opens o.ensures.same c.show_leaf-status.ensures.work (c.show_leaf-status.ensures.ended input)
+    work_done_plainly _ (AskLeaf (release_of c.args.release) c.args.label.now) o.opened c.show_leaf-status.result c.plainly.result c.plainly.ensures c.show_leaf-status.ensures.plain o.ensures.opens o.ensures.same c.show_leaf-status.ensures.work (c.show_leaf-status.ensures.ended input)
