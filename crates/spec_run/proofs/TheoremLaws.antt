@@ -32,7 +32,9 @@ use Rattle.spec_lines.specs.Words.{words_in, rest_in}
 use Rattle.spec_lines.specs.FullLine.{full_line}
 use Rattle.spec_lines.specs.Streams.{Full, word_lines, bytes_line}
 use Rattle.spec_lines.proofs.Streams.{length-rest_in, length_rest_in_lt, rest_in-drop}
-use Rattle.spec_run.specs.End.{End, Which, Insns, Features, Input, Ragged, Refuted, Limit, message}
+use Rattle.spec_run.specs.Kinds.{DocumentKind, Insns, Features}
+use Rattle.spec_run.specs.Documents.{under_names}
+use Rattle.spec_run.specs.End.{End, Input, Ragged, Refuted, Limit, message}
 use Rattle.spec_run.specs.Opening.{OpeningError, NotRead, TooLong, Refused, UnknownPin, NoneFits, ◌then◌, json_in, by_walk, by_value, document_limit, by_bytes, document_read, pinned, features_given, fitting, pins_known, configured, machine_by, machine_opened}
 use Rattle.spec_run.specs.Refutation.{EndsBy}
 use Rattle.spec_run.specs.Work.{Outcome}
@@ -158,7 +160,7 @@ module _ (machine : Machine) (max : ℕ) (bytes : List ℕ) where
 
 -- ---- what is accepted is opened
 
-read_of : {A : Type 0} (which : Which) (walk : Data → Result A Fault) (docs : List Named) (name : List ℕ) (x : A) → AcceptedDocument walk docs name x → document_read which walk name docs ≡ Ok x
+read_of : {A : Type 0} (which : DocumentKind) (walk : Data → Result A Fault) (docs : List Named) (name : List ℕ) (x : A) → AcceptedDocument walk docs name x → document_read which walk name (under_names docs) ≡ Ok x
 read_of {A = A} which walk docs name x h =
     let le : length h.bytes ≤ 268435456 = h.within in
     let short : nat_lt document_limit (length h.bytes) ≡ false = grind (arith, nat_tests) in
@@ -167,7 +169,7 @@ read_of {A = A} which walk docs name x h =
     ∙ ap (by_value which walk) h.json
     ∙ ap (by_walk which) h.gives
 
-given_of : (features : Option (List ℕ)) (pins : List Pin) (held : List (List ℕ)) (docs : List Named) (x : Theirs) → AcceptedFeatures features pins held docs x → features_given features pins held docs ≡ Ok x
+given_of : (features : Option (List ℕ)) (pins : List Pin) (held : List (List ℕ)) (docs : List Named) (x : Theirs) → AcceptedFeatures features pins held docs x → features_given features pins held (under_names docs) ≡ Ok x
 given_of None pins held docs x h = ap Ok (sym h)
 given_of (Some name) pins held docs x h = ap (λ (r : Result (Theirs × Counts) OpeningError). r then λ read. Ok read.0) (read_of Features (features_read held) docs name (x, h.0) h.1)
 
@@ -208,17 +210,17 @@ module _ (words : List (List ℕ)) (s : Scene) (err err_after : Writing) (end : 
   gives answer = answers_are_exact words s given.docs given.bytes end given.shelf_tells given.source_tells answers.performs.says answer
 
   -- what is opened, by what settles
-  opened : (r : Result Configuration OpeningError) → configured given.features given.asked.pins ≡ r → machine_opened given.release given.asked given.docs ≡ (r then λ g. Ok (machine_by given.set g))
+  opened : (r : Result Configuration OpeningError) → configured given.features given.asked.pins ≡ r → machine_opened given.release given.asked (under_names given.docs) ≡ (r then λ g. Ok (machine_by given.set g))
   opened r e =
       ap (λ (r : Result (Node × Counts) OpeningError). r then λ read.
-      (features_given given.asked.features given.asked.pins read.1.held given.docs then λ features.
+      (features_given given.asked.features given.asked.pins read.1.held (under_names given.docs) then λ features.
       (configured features given.asked.pins then λ g. Ok (machine_by read.0 g))))
       (read_of Insns (tree_read given.release.isa (pinned given.asked.pins)) given.docs given.release.insns (given.set, given.counts) given.insns)
       ∙ ap (λ (r : Result Theirs OpeningError). r then λ features. (configured features given.asked.pins then λ g. Ok (machine_by given.set g)))
       (given_of given.asked.features given.asked.pins given.counts.held given.docs given.features given.constraints)
       ∙ ap (λ (r : Result Configuration OpeningError). r then λ g. Ok (machine_by given.set g)) e
 
-  comes_to : (r : Result Machine OpeningError) → machine_opened given.release given.asked given.docs ≡ r
+  comes_to : (r : Result Machine OpeningError) → machine_opened given.release given.asked (under_names given.docs) ≡ r
       → outcome words given.docs given.bytes ≡ after_opening (AskList given.release false given.max given.asked) r given.bytes
   comes_to r e = ap (λ r. of_request r given.docs given.bytes) given.list ∙ ap (λ r. after_opening (AskList given.release false given.max given.asked) r given.bytes) e
 
@@ -240,7 +242,7 @@ module _ (words : List (List ℕ)) (s : Scene) (err err_after : Writing) (end : 
         let is : line ≡ full_line machine (4 * k) (word_at given.bytes k) = h.is ∙ ap (λ at. full_line machine at (word_at within k)) offset ∙ ap (full_line machine (4 * k)) word in
         let small_is : word_at given.bytes k < 2 ^ 32 = subst (λ (w : ℕ). w < 2 ^ 32) word h.small in
         subst (IsLine machine (word_at given.bytes k) (4 * k)) (sym is)
-        (full_line_shows machine (word_at given.bytes k) (4 * k) (λ c lone. opened_fields_tell_word given.release given.asked given.docs machine (word_at given.bytes k) c (opened (Ok g) e) small_is lone))
+        (full_line_shows machine (word_at given.bytes k) (4 * k) (λ c lone. opened_fields_tell_word given.release given.asked (under_names given.docs) machine (word_at given.bytes k) c (opened (Ok g) e) small_is lone))
 
     listed : IsListed given end
     listed =
