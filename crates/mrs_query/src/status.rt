@@ -4,8 +4,8 @@ ghost use Rattle.spec_lines.specs.LineFault.{LineWhy};
 ghost use Rattle.spec_run.specs.End.{exit_number};
 ghost use Rattle.mrs_query.specs.End.{end_of};
 
-use list_words::LineFault;
 use crate::which::Which;
+use list_words::LineFault;
 use release_opening::DocFault;
 
 /// Why a question has no answer.

@@ -1,9 +1,8 @@
 //! The top call.
-ghost use Rattle.std.specs.Prelude.{◌≡◌, ℕ, List, map, string_bytes, []};
+ghost use Rattle.std.specs.Prelude.{◌≡◌, ℕ, List, map, string_bytes, [], ⊤};
 ghost use Rattle.spec_run.specs.End.{message, IsEarly, IsUsage};
 ghost use Rattle.spec_run.specs.Commands.{ReadTheStream};
 ghost use Rattle.spec_lines.specs.LineFault.{LineWhy};
-ghost use Rattle.list_words.specs.declared.lister.Lister.{Lister};
 ghost use Rattle.mrs_query.specs.End.{end_of, bare_end};
 ghost use Rattle.mrs_query.specs.Runs.{HasText, Performed, Runs};
 
@@ -77,7 +76,7 @@ pub fn run<R: Threads + Sync, V: Shelf, S: Source, K: Sink, E: Sink>(
     // Whatever its status, a command that does not read the stream leaves the source as it was.
     ensures unread { ¬ ReadTheStream (map string_bytes words.now) → input.new ≡ input.old }
     // Where there is nothing to say, `err` is not touched.
-    ensures quiet { (by : Lister → Type 0) (why : LineWhy) (text : List ℕ) → HasText by result why text → message (end_of result why text) ≡ [] → err.new ≡ err.old }
+    ensures quiet { (why : LineWhy) (text : List ℕ) → HasText (λ lister. ⊤) result why text → message (end_of result why text) ≡ [] → err.new ≡ err.old }
 {
     let _ = rt;
     let ended = perform(alloc, words, shelf, input, out);

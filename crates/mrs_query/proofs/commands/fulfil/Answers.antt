@@ -11,3 +11,9 @@ returns-in-Proof-clause-fulfils g c = rw c.in-Proof.is (c.fulfil-in-Proof.ensure
 
 pub returns-in-Check-clause-fulfils : goal.returns-in-Check-clause-fulfils
 returns-in-Check-clause-fulfils g c = rw c.in-Check.is (c.fulfil-in-Check.ensures.fulfils _)
+
+pub returns-in-List-clause-unread : goal.returns-in-List-clause-unread
+returns-in-List-clause-unread g c = λ no. absurd (no (rw c.in-List.is tt))
+
+pub returns-in-Asm-clause-unread : goal.returns-in-Asm-clause-unread
+returns-in-Asm-clause-unread g c = λ no. absurd (no (rw c.in-Asm.is tt))

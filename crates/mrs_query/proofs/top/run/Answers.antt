@@ -1,4 +1,5 @@
 use Rattle.std.proofs.Common.{subst, List, ℕ}
+use Rattle.std.specs.Prelude.{⊤}
 use Rattle.spec_run.specs.Scene.{TookText}
 use Rattle.mrs_query.proofs.Silent.{silent, said_alike}
 use Rattle.mrs_query.proofs.top.run.Goals as goal
@@ -15,4 +16,4 @@ returns-clause-answers g c =
     }
 
 pub returns-clause-quiet : goal.returns-clause-quiet
-returns-clause-quiet g c = λ by why text has none. c.tell.ensures.quiet (silent by why text c.perform-ended.result.text.items c.perform-ended.result.status has none)
+returns-clause-quiet g c = λ why text has none. c.tell.ensures.quiet (silent (λ lister. ⊤) why text c.perform-ended.result.text.items c.perform-ended.result.status has none)

@@ -2,6 +2,7 @@ use Rattle.std.proofs.Common.{sym, subst, ◌<◌, ℕ, [], ◌∷◌, length}
 use Rattle.std.specs.List.{AllByRecursion}
 use Rattle.std.proofs.lemmas.Result.{err_from_is_err_and}
 use Rattle.spec_features.specs.Fits.{PinOf}
+use Rattle.spec_decode.specs.Machine.{Machine}
 use Rattle.spec_run.specs.Kinds.{Insns, Features, named}
 use Rattle.mrs_command.specs.Commands.{release_of, configured_of}
 use Rattle.release_opening.specs.Pinned.{ArePins}
@@ -20,7 +21,7 @@ returns-in_err-arena-clause-opens g c =
 pub returns-in_err-arena-clause-named : goal.returns-in_err-arena-clause-named
 returns-in_err-arena-clause-named g c =
     let p = err_from_is_err_and c.from_residual-in_err-arena.result c.from_residual-in_err-arena.ensures.1 in
-    rw (p.1, p.2) (of_front _ _ (Insns ∷ []) (named Features (configured_of c.args.asked).features) c.in_err-arena.field-0.0 c.in_err-arena.ensures.named)
+    rw (p.1, p.2) (of_front Machine Machine (Insns ∷ []) (named Features (configured_of c.args.asked).features) c.in_err-arena.field-0.0 c.in_err-arena.ensures.named)
 
 pub open_machine-requires-clause-pins : goal.open_machine-requires-clause-pins
 open_machine-requires-clause-pins g c =
@@ -41,4 +42,4 @@ returns-clause-opens g c =
     s.value c.open_machine.result read.same s.is c.open_machine.ensures.named (c.open_machine.ensures.opens asked.pins s.value pins s.stands)
 
 pub returns-clause-named : goal.returns-clause-named
-returns-clause-named g c = result_of_back _ (Insns ∷ []) (named Features (configured_of c.args.asked).features) c.open_machine.result c.open_machine.ensures.named
+returns-clause-named g c = result_of_back Machine (Insns ∷ []) (named Features (configured_of c.args.asked).features) c.open_machine.result c.open_machine.ensures.named

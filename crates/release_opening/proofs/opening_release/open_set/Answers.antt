@@ -1,5 +1,6 @@
 use Rattle.std.proofs.Common.{refl, [], ◌∷◌}
 use Rattle.std.proofs.lemmas.Result.{err_from_is_err_and}
+use Rattle.spec_decode.specs.Machine.{Machine}
 use Rattle.spec_run.specs.Kinds.{Insns}
 use Rattle.spec_run.specs.Opening.{unconfigured}
 use Rattle.mrs_command.specs.Commands.{release_of}
@@ -21,4 +22,4 @@ returns-clause-opens g c =
     s.value c.open_machine.result read.same s.is c.open_machine.ensures.named (c.open_machine.ensures.opens [] s.value (record { are = refl; held = tt; count = refl }) s.stands)
 
 pub returns-clause-named : goal.returns-clause-named
-returns-clause-named g c = result_of_back _ (Insns ∷ []) [] c.open_machine.result c.open_machine.ensures.named
+returns-clause-named g c = result_of_back Machine (Insns ∷ []) [] c.open_machine.result c.open_machine.ensures.named

@@ -25,7 +25,7 @@ returns-clause-fulfils g c =
     let after = g.V.Shelf.shelving c.open_release.new.shelf in
     let a = c.assemble.ensures.assembled in
     let text =
-        has_by (λ lister. IsOneRelease lister × (machine lister ≡ o.opened)) (λ lister. IsOneRelease lister × DocumentsGive (machine_opened release asked) shelf after (Ok (machine lister))) (λ lister is. (is.0, subst (λ m. DocumentsGive (machine_opened release asked) shelf after (Ok m)) (sym is.1) o.ensures.opens.0)) a.why
-        c.assemble.result.text.items c.assemble.result.status a.text
+    has_by (λ lister. IsOneRelease lister × (machine lister ≡ o.opened)) (λ lister. IsOneRelease lister × DocumentsGive (machine_opened release asked) shelf after (Ok (machine lister))) (λ lister is. (is.0, subst (λ m. DocumentsGive (machine_opened release asked) shelf after (Ok m)) (sym is.1) o.ensures.opens.0)) a.why
+    c.assemble.result.text.items c.assemble.result.status a.text
     in
     work_done _ (AskAsm release c.args.max asked) o.opened a.why c.assemble.result o.ensures.opens o.ensures.same text (late_of_work c.assemble.result.status a.why c.assemble.result.text.items c.assemble.ensures.late) a.ran
