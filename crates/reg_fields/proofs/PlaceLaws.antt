@@ -31,8 +31,8 @@ module _ (doc : RegisterDoc) (r : ℕ) (d : RegisterDef) where
       ∙ ap (λ register. register.fieldsets) (get_or-map (register_of doc) doc.registers.items r d (register_of doc d) less)
 
   -- a register that has a fieldset of some number is one
-  pub register-within : (k : ℕ) → k < length (fieldsets_at (registers_of doc) r) → r < length doc.registers.items
-  register-within k h = go (cases_lt r (length doc.registers.items))
+  pub register_within : (k : ℕ) → k < length (fieldsets_at (registers_of doc) r) → r < length doc.registers.items
+  register_within k h = go (cases_lt r (length doc.registers.items))
     where
       long : length (map (λ register. register.fieldsets) (map (register_of doc) doc.registers.items)) ≡ length doc.registers.items
       long = length-map (λ register. register.fieldsets) (map (register_of doc) doc.registers.items) ∙ length-map (register_of doc) doc.registers.items
@@ -45,19 +45,19 @@ module _ (doc : RegisterDoc) (r : ℕ) (d : RegisterDef) where
     own : IsRegister (length doc.arena.exprs) (length doc.fieldsets.items) (length doc.entries.items) (get_or doc.registers.items r d)
     own = sound.registers r d less
 
-    pub fieldsets-count : (get_or doc.registers.items r d).fieldsets.len ≡ length (fieldsets_at (registers_of doc) r)
-    fieldsets-count =
+    pub fieldsets_count : (get_or doc.registers.items r d).fieldsets.len ≡ length (fieldsets_at (registers_of doc) r)
+    fieldsets_count =
         let s = (get_or doc.registers.items r d).fieldsets in
         sym (ap length (fieldsets-are less) ∙ length-map (fieldset_of doc.arena.exprs doc.ranges.items doc.fields.items) (spanned s doc.fieldsets.items) ∙ spanned-length s doc.fieldsets.items own.fieldsets_end)
 
     -- fieldset number k stands so far behind the first
-    pub fieldset-within : (k : ℕ) → k < length (fieldsets_at (registers_of doc) r) → (get_or doc.registers.items r d).fieldsets.from + k < length doc.fieldsets.items
-    fieldset-within k h = omega (arith, h, fieldsets-count, own.fieldsets_end)
+    pub fieldset_within : (k : ℕ) → k < length (fieldsets_at (registers_of doc) r) → (get_or doc.registers.items r d).fieldsets.from + k < length doc.fieldsets.items
+    fieldset_within k h = omega (arith, h, fieldsets_count, own.fieldsets_end)
 
-    pub fieldset-is : (k : ℕ) (e : Fieldset) → k < length (fieldsets_at (registers_of doc) r)
+    pub fieldset_is : (k : ℕ) (e : Fieldset) → k < length (fieldsets_at (registers_of doc) r)
         → slice_get (fieldsets_at (registers_of doc) r) k ≡ Some (fieldset_of doc.arena.exprs doc.ranges.items doc.fields.items (get_or doc.fieldsets.items ((get_or doc.registers.items r d).fieldsets.from + k) e))
-    fieldset-is k e h =
+    fieldset_is k e h =
         let s = (get_or doc.registers.items r d).fieldsets in
         ap (λ sets. slice_get sets k) (fieldsets-are less)
         ∙ slice_get-map (fieldset_of doc.arena.exprs doc.ranges.items doc.fields.items) (spanned s doc.fieldsets.items) k
-        ∙ ap (option_map (fieldset_of doc.arena.exprs doc.ranges.items doc.fields.items)) (spanned-at s doc.fieldsets.items k e own.fieldsets_end (omega (arith, h, fieldsets-count)))
+        ∙ ap (option_map (fieldset_of doc.arena.exprs doc.ranges.items doc.fields.items)) (spanned-at s doc.fieldsets.items k e own.fieldsets_end (omega (arith, h, fieldsets_count)))
