@@ -19,10 +19,10 @@ gap-is width covered bit len most all stops =
     let bits = range_with_len bit (width - bit) in
     let long = length-range_with_len bit (width - bit) in
     ap (λ (n : ℕ). record { start = bit; width = n })
-      (sym (prefix_len_is (is_gap (has_bit covered)) bits len 0 (omega (arith, most, long))
-          (λ k below. ap (is_gap (has_bit covered)) (get_or-range_with_len bit (width - bit) k 0 (omega (arith, below, most))) ∙ all k below)
-          (λ less. ap (is_gap (has_bit covered)) (get_or-range_with_len bit (width - bit) len 0 (omega (arith, less, long))) ∙ stops (omega (arith, less, long))))
-      ∙ sym (length-prefix_len (is_gap (has_bit covered)) bits))
+    (sym (prefix_len_is (is_gap (has_bit covered)) bits len 0 (omega (arith, most, long))
+    (λ k below. ap (is_gap (has_bit covered)) (get_or-range_with_len bit (width - bit) k 0 (omega (arith, below, most))) ∙ all k below)
+    (λ less. ap (is_gap (has_bit covered)) (get_or-range_with_len bit (width - bit) len 0 (omega (arith, less, long))) ∙ stops (omega (arith, less, long))))
+    ∙ sym (length-prefix_len (is_gap (has_bit covered)) bits))
 
 module _ (value width covered below : ℕ) (some : 0 < below) where
   next : gaps_below width (has_bit covered) below

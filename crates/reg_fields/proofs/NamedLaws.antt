@@ -15,8 +15,8 @@ use Rattle.spec_registers.specs.Renamed.{register_with_names}
 use Rattle.register_document.specs.Views.{register_of, registers_of}
 use Rattle.register_document.specs.declared.register.RegisterDef.{RegisterDef}
 use Rattle.register_document.specs.declared.document.RegisterDoc.{RegisterDoc}
-use Rattle.reg_fields.specs.Order.{of_name, numbered}
-use Rattle.reg_fields.specs.Places.{AreHeldRegisters}
+use Rattle.reg_fields.specs.Order.{of_held}
+use Rattle.reg_fields.specs.Places.{AreHeldRegisters, IsOrderOf}
 
 module _ (names : List (List ℕ)) (are : AreNames names) (text : List ℕ) where
   -- a held name is the text exactly where its number is the text's
@@ -76,12 +76,11 @@ module _ (names : List (List ℕ)) (are : AreNames names) (text : List ℕ) wher
     none-from n [] none held = refl
     none-from n (d ∷ defs) none held =
         ap (λ b. cond b ((n, register_with_names (text_of names) (register_of doc d)) ∷ filter (λ p. bytes_eq p.1.name text) (enumerate_from (n + 1) (texts defs))) (filter (λ p. bytes_eq p.1.name text) (enumerate_from (n + 1) (texts defs))))
-          (text-none d.name.0 none (All-head Held (register_of doc d) (map (register_of doc) defs) held))
+        (text-none d.name.0 none (All-head Held (register_of doc d) (map (register_of doc) defs) held))
         ∙ none-from (n + 1) defs none (All-tail Held (register_of doc d) (map (register_of doc) defs) held)
 
-    pub found : (id : ℕ) → place_of text names ≡ Some id → AreHeldRegisters names (registers_of doc)
-        → of_name id (numbered (map (λ d. d.name.0) doc.registers.items)) ≡ named_in text (map (register_with_names (text_of names)) (registers_of doc).registers)
-    found id place held = found-from id 0 doc.registers.items place held.registers
-
-    pub none : place_of text names ≡ None → AreHeldRegisters names (registers_of doc) → [] ≡ named_in text (map (register_with_names (text_of names)) (registers_of doc).registers)
-    none without held = sym (ap (map (λ p. p.0)) (none-from 0 doc.registers.items without held.registers))
+    -- the registers of the number that a text may have
+    pub held-is : (pairs : List (ℕ × ℕ)) (o : Option ℕ) → IsOrderOf (map (λ d. d.name.0) doc.registers.items) pairs → AreHeldRegisters names (registers_of doc) → o ≡ place_of text names
+        → of_held o pairs ≡ named_in text (map (register_with_names (text_of names)) (registers_of doc).registers)
+    held-is pairs (Some id) order held place = order id ∙ found-from id 0 doc.registers.items (sym place) held.registers
+    held-is pairs None order held place = sym (ap (map (λ p. p.0)) (none-from 0 doc.registers.items (sym place) held.registers))

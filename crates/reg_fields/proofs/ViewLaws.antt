@@ -68,7 +68,7 @@ module _ {M N : Type 0} (f : M → N) (value : ℕ) where
       map-append (piece_with_names f) (flat_map (field_pieces value) fields) (map (piece value None) (gaps bits (is_covered (ranges_of fields))))
       ∙ ap (λ ps. ps ++ map (piece_with_names f) (map (piece value None) (gaps bits (is_covered (ranges_of fields))))) (fields-named fields)
       ∙ ap (λ ps. flat_map (field_pieces value) (map (field_with_names f) fields) ++ ps)
-        (map-map (piece value None) (piece_with_names f) (gaps bits (is_covered (ranges_of fields))) ∙ ap (λ rs. map (piece value None) (gaps bits (is_covered rs))) (sym (ranges-kept fields)))
+      (map-map (piece value None) (piece_with_names f) (gaps bits (is_covered (ranges_of fields))) ∙ ap (λ rs. map (piece value None) (gaps bits (is_covered rs))) (sym (ranges-kept fields)))
 
 -- ---- the fields that are shown
 

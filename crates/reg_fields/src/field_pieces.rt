@@ -85,8 +85,8 @@ impl<'a> Iterator for FieldPieces<'a> {
             self.at += 1;
             if is_shown(self.doc, &field, self.config) {
                 self.name = field.name;
-                self.ranges =
-                    &self.doc.ranges[field.ranges.from..field.ranges.from + field.ranges.len];
+                self.ranges = &self.doc.ranges[field.ranges.from..field.ranges.from
+                    + field.ranges.len];
                 self.range_at = 0;
             }
         }

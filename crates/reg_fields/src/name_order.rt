@@ -41,8 +41,8 @@ impl Model for NameOrder {
 }
 
 impl NameOrder {
-    ghost use Rattle.std.specs.Prelude.{◌≡◌, ◌≤◌, ◌^◌, ℕ, IfOk, length, map};
-    ghost use Rattle.reg_fields.specs.Order.{of_name, numbered};
+    ghost use Rattle.std.specs.Prelude.{◌≡◌, ◌≤◌, ◌^◌, ℕ, IfOk, length, map, option_map};
+    ghost use Rattle.reg_fields.specs.Order.{of_name, of_held, numbered};
 
     /// The order of these registers.
     pub(crate) fn new(alloc: Global, registers: &[RegisterDef]) -> Result<NameOrder, NoMemory>
@@ -54,8 +54,18 @@ impl NameOrder {
         Ok(NameOrder { order, ids })
     }
 
-    /// The registers of a name, in their order.
-    pub(crate) fn find(&self, name: NameId) -> &[RegId]
+    /// The registers of a name that may be held, in their order.
+    pub(crate) fn find(&self, name: Option<NameId>) -> &[RegId]
+        ensures { map (λ id. id.0) result.now ≡ of_held (option_map (λ id. id.0) name) self.now }
+    {
+        match name {
+            Some(name) => self.of_name(name),
+            None => &[],
+        }
+    }
+
+    /// The registers of a name.
+    fn of_name(&self, name: NameId) -> &[RegId]
         ensures { map (λ id. id.0) result.now ≡ of_name name.0 self.now }
     {
         let span = span_of_name(&self.order, name);

@@ -65,10 +65,7 @@ impl<'a> Registers<'a> {
         requires { AreHeldRegisters names.now self.now }
         ensures { map (λ id. id.0) result.now ≡ named_in text.now (map (register_with_names (text_of names.now)) self.now.registers) }
     {
-        match names.find(text) {
-            Some(name) => self.order.find(name),
-            None => &[],
-        }
+        self.order.find(names.find(text))
     }
 
     /// How many fieldsets a register has.

@@ -10,6 +10,6 @@ pub returns : goal.returns
 returns c =
     gap-is c.args.width c.args.covered c.args.bit c.bits.len c.bits.invariant.1.0 c.bits.invariant.1.1
     (λ less. elim c.bits-test.branch [
-      then-bits-test+else-not-has_bit w ↦ search rules
+      | then-bits-test+else-not-has_bit w ↦ search rules
       | else-bits-test w ↦ absurd (omega (arith, less, w.bits-test))
     ])

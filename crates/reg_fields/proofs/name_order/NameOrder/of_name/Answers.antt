@@ -1,7 +1,7 @@
 use Rattle.std.proofs.Common.{◌≡◌, ◌∙◌, ◌==◌, ◌+◌, ◌-◌, ap, sym, map, filter, take, drop, arith}
 use Rattle.reg_fields.specs.Order.{pair_of}
 use Rattle.reg_fields.proofs.OrderLaws.{filter-map, map-map, spanned-map}
-use Rattle.reg_fields.proofs.name_order.NameOrder.find.Goals as goal
+use Rattle.reg_fields.proofs.name_order.NameOrder.of_name.Goals as goal
 
 pub returns : goal.returns
 returns c =
