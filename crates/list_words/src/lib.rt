@@ -28,7 +28,6 @@ mod reasons;
 mod streams;
 mod token;
 mod tokens;
-mod way;
 mod written;
 
 pub use bare::push_bare_line;

@@ -10,6 +10,7 @@ use Rattle.spec_run.specs.Opens.{DocumentsGive}
 use Rattle.spec_run.specs.Scene.{Scene}
 use Rattle.spec_run.specs.Refutation.{IsRefutation}
 use Rattle.spec_run.specs.Answers.{Performs, Answers}
+use Rattle.spec_run.specs.Theorem.{ListingTheorem}
 use Rattle.spec_lines.specs.LineFault.{LineWhy}
 use Rattle.spec_lines.specs.Reasons as reasons
 use Rattle.list_words.specs.Faults.{IsWhy}
@@ -72,3 +73,9 @@ pub record Runs (words : List (List ℕ)) (scene : Scene) (err err_after : Writi
   pub text : List ℕ
   pub is : HasText (IsOpenedBy words scene) status why text
   pub answers : Answers words scene err err_after (end_of status why text)
+
+-- with what goes with the status, the listing theorem holds of the run
+pub record Lists (words : List (List ℕ)) (scene : Scene) (err err_after : Writing) (status : Status) : Type 0 where
+  pub why : LineWhy
+  pub text : List ℕ
+  pub theorem : ListingTheorem words scene err err_after (end_of status why text)

@@ -4,7 +4,7 @@ ghost use Rattle.spec_run.specs.End.{message, IsEarly, IsUsage};
 ghost use Rattle.spec_run.specs.Commands.{ReadTheStream};
 ghost use Rattle.spec_lines.specs.LineFault.{LineWhy};
 ghost use Rattle.mrs_query.specs.End.{end_of, bare_end};
-ghost use Rattle.mrs_query.specs.Runs.{HasText, Performed, Runs};
+ghost use Rattle.mrs_query.specs.Runs.{HasText, Performed, Runs, Lists};
 
 use crate::Status;
 use crate::commands::fulfil;
@@ -63,6 +63,15 @@ pub fn run<R: Threads + Sync, V: Shelf, S: Source, K: Sink, E: Sink>(
     err: &mut E,
 ) -> Status
     ensures answers { Runs (map string_bytes words.now) (record {
+      shelf = V.shelving shelf.old;
+      shelf_after = V.shelving shelf.new;
+      input = S.reading input.old;
+      input_after = S.reading input.new;
+      out = K.writing out.old;
+      out_after = K.writing out.new;
+    }) (E.writing err.old) (E.writing err.new) result }
+    // The listing theorem, for `list` in full lines.
+    ensures listing { Lists (map string_bytes words.now) (record {
       shelf = V.shelving shelf.old;
       shelf_after = V.shelving shelf.new;
       input = S.reading input.old;

@@ -1,11 +1,9 @@
 -- What holds of each document that was read: spans lie within their arrays, conditions are expressions of the arena, and
 -- limits are kept.
 use Rattle.std.specs.Prelude.{◌≡◌, ℕ, ◌+◌, ◌<◌, ◌≤◌, List, length, All, Option, IfSome}
-use Rattle.spec_expressions.specs.Expression.{ExprOf}
 use Rattle.spec_registers.specs.Limits.{register_limit, fieldset_limit, entry_limit}
 use Rattle.bit_pattern.specs.declared.range.Range.{Range}
 use Rattle.mrs_arena.specs.declared.expr_id.ExprId.{ExprId}
-use Rattle.register_document.specs.declared.span.Span.{Span}
 use Rattle.register_document.specs.declared.field.FieldDef.{FieldDef}
 use Rattle.register_document.specs.declared.field.Fieldset.{Fieldset}
 use Rattle.register_document.specs.declared.register.Entry.{Entry}

@@ -14,7 +14,6 @@ use crate::choosing::choose;
 use crate::configuration::OpenedConfiguration;
 use crate::opening_error::OpeningError;
 use crate::opening_features::open_features;
-use crate::parameters::parameters;
 use crate::pinned::Pinned;
 use feat_model::Pin;
 use mrs_command::Pins;
@@ -54,6 +53,5 @@ fn configure_by(
     ensures { (asked : List spec.Pin) → ArePins names pins.now asked → Comes (configured (features_in names features.now) asked) result }
 {
     let config = choose(alloc, &names, features, pins)?;
-    let parameters = parameters(alloc, &features.params)?;
-    Ok(OpenedConfiguration::new(names, parameters, config))
+    Ok(OpenedConfiguration::new(names, config))
 }

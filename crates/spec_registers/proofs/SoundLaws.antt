@@ -13,6 +13,7 @@ use Rattle.spec_walk.specs.Event.{Why, WrongShape, BadRange, BadName, TooMany, M
 use Rattle.spec_walk.specs.Limits.{from_held}
 use Rattle.spec_walk.specs.Walk.{Walk, Done, ◌>>>◌}
 use Rattle.spec_walk.specs.Spot.{Spot, spot, root, unless, needs, an_object, elements, text, whole_number, number_below, needed, optional, kind, exactly, named, each}
+use Rattle.spec_walk.proofs.FirstFaultLaws.{answers-gives}
 use Rattle.spec_walk.proofs.EveryLaws.{Every, every-gives, every-then, every-next, every-unless, every-needs, every-optional, every-each, every-weaker, AllOf}
 use Rattle.spec_expressions.specs.Expression.{Expr}
 use Rattle.spec_instructions.specs.Encodeset.{Range, pattern, value}
@@ -361,4 +362,5 @@ registers_sound here =
     (λ found h. h)
 
 pub registers_are_sound : RegistersAreSound
-registers_are_sound held d found counts read = every-gives AreSound (registers (root d)) (from_held held) counts found (registers_sound (root d)) read
+registers_are_sound held d found counts read =
+    every-gives AreSound (registers (root d)) (from_held held) counts found (registers_sound (root d)) (sym (answers-gives (registers (root d)) (from_held held)) ∙ read)

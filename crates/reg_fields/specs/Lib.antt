@@ -1,5 +1,0 @@
-pub mod Masks
-pub mod Shown
-pub mod Left
-pub mod Order
-pub mod Places
