@@ -1,7 +1,9 @@
 //! Which values keys take, and what they say.
 ghost use Rattle.std.specs.Prelude.{◌≡◌, ◌≤◌, ◌^◌, option_map, IfSome};
 ghost use Rattle.spec_command.specs.Commands as spec;
+ghost use Rattle.mrs_command.specs.Commands.{form_of};
 
+use crate::commands::{Form, is_among};
 use crate::pin_words::is_pin_key;
 use mrs_names::is_name;
 use number_text::number_below;
@@ -12,13 +14,13 @@ pub(crate) const USUAL_LIMIT: u64 = 4_294_967_296;
 /// How many bytes a setting may allow at most: 2^40.
 const GREATEST_LIMIT: u128 = 1_099_511_627_776;
 
-/// Whether a text asks for bare lines or for full ones; `None` exactly where it is the word for neither.
-pub(crate) fn bare_by(text: &str) -> Option<bool>
-    ensures { result ≡ spec.bare_by text.now }
+/// The form of lines that a text says; `None` exactly where it is the word for none.
+pub(crate) fn form_by(text: &str) -> Option<Form>
+    ensures { option_map form_of result ≡ spec.form_by text.now }
 {
     match text {
-        "full" => Some(false),
-        "bare" => Some(true),
+        "full" => Some(Form::Full),
+        "bare" => Some(Form::Bare),
         _ => None,
     }
 }
@@ -34,17 +36,34 @@ pub(crate) fn limit_by(text: &str) -> Option<u64>
     }
 }
 
-/// Whether a key takes a value that is not empty: that of a pin takes a name, `form` and `max` what they are read from, and
-/// any other key any text.
+/// Whether the values of a key are numbers.
+fn is_number_key(key: &str) -> bool
+    ensures { result ≡ spec.is_one_of spec.number_keys key.now }
+{
+    is_among(&["max"], key)
+}
+
+/// The number that a value of such a key is read as; `None` exactly where it is none within the key's limits, or the key is another.
+pub(crate) fn number_by(key: &str, value: &str) -> Option<u128>
+    ensures { option_map (λ n. n) result ≡ spec.number_by key.now value.now }
+{
+    match key {
+        "max" => limit_by(value).map(u128::from),
+        _ => None,
+    }
+}
+
+/// Whether a key takes a value that is not empty: that of a pin takes a name, `form` and those of numbers what they are read
+/// from, and any other key any text.
 pub(crate) fn takes(key: &str, value: &str) -> bool
     ensures { result ≡ spec.takes key.now value.now }
 {
     if is_pin_key(key) {
         is_name(value)
     } else if key == "form" {
-        bare_by(value).is_some()
-    } else if key == "max" {
-        limit_by(value).is_some()
+        form_by(value).is_some()
+    } else if is_number_key(key) {
+        number_by(key, value).is_some()
     } else {
         true
     }

@@ -2,7 +2,8 @@
 use Rattle.std.specs.Prelude.{◌≡◌, [], ◌∷◌, true, false, Some, None, Ok, Err, codes, refl}
 use Rattle.spec_command.specs.Setting.{value_in}
 use Rattle.spec_command.specs.Pins.{pins_in}
-use Rattle.spec_command.specs.Commands.{Configured, AskList, AskAsm, AskLeaf, AskConfig, AskProof, AskCheck, list_command, leaf_command, config_command, check_command}
+use Rattle.spec_command.specs.Commands.{Configured, Full, Bare, AskList, AskAsm, AskLeaf, AskConfig, AskProof, AskCheck, list_verb, leaf_verb, config_verb, check_verb}
+use Rattle.spec_command.specs.Words.{IsNumber, command}
 use Rattle.spec_command.specs.Request.{request}
 
 -- no document of features, and no pin
@@ -33,7 +34,7 @@ no_equals = refl
 empty_key : request (codes "list" ∷ codes "=x" ∷ []) ≡ Err 1
 empty_key = refl
 
-first_equals : request (codes "list" ∷ codes "insns=a=b" ∷ []) ≡ Ok (AskList (record { insns = codes "a=b"; isa = codes "A64" }) false 4294967296 unsaid)
+first_equals : request (codes "list" ∷ codes "insns=a=b" ∷ []) ≡ Ok (AskList (record { insns = codes "a=b"; isa = codes "A64" }) Full 4294967296 unsaid)
 first_equals = refl
 
 no_label : request (codes "leaf" ∷ codes "insns=i" ∷ []) ≡ Err 2
@@ -57,16 +58,16 @@ set_alone = refl
 
 -- several words may have the key of a pin, also with one value
 pins : request (codes "list" ∷ codes "on=B" ∷ codes "insns=i" ∷ codes "on=A" ∷ codes "on=B" ∷ [])
-    ≡ Ok (AskList (record { insns = codes "i"; isa = codes "A64" }) false 4294967296 (record { features = None; pins = (codes "B", true) ∷ (codes "A", true) ∷ (codes "B", true) ∷ [] }))
+    ≡ Ok (AskList (record { insns = codes "i"; isa = codes "A64" }) Full 4294967296 (record { features = None; pins = (codes "B", true) ∷ (codes "A", true) ∷ (codes "B", true) ∷ [] }))
 pins = refl
 
 -- pins are on or off, by a document of features or without one
 pins_by_features : request (codes "list" ∷ codes "insns=i" ∷ codes "features=f" ∷ codes "off=A" ∷ codes "on=B" ∷ [])
-    ≡ Ok (AskList (record { insns = codes "i"; isa = codes "A64" }) false 4294967296 (record { features = Some (codes "f"); pins = (codes "A", false) ∷ (codes "B", true) ∷ [] }))
+    ≡ Ok (AskList (record { insns = codes "i"; isa = codes "A64" }) Full 4294967296 (record { features = Some (codes "f"); pins = (codes "A", false) ∷ (codes "B", true) ∷ [] }))
 pins_by_features = refl
 
 pinned_off : request (codes "list" ∷ codes "insns=i" ∷ codes "off=A" ∷ [])
-    ≡ Ok (AskList (record { insns = codes "i"; isa = codes "A64" }) false 4294967296 (record { features = None; pins = (codes "A", false) ∷ [] }))
+    ≡ Ok (AskList (record { insns = codes "i"; isa = codes "A64" }) Full 4294967296 (record { features = None; pins = (codes "A", false) ∷ [] }))
 pinned_off = refl
 
 lines_by_features : request (codes "asm" ∷ codes "off=A" ∷ codes "features=f" ∷ codes "insns=i" ∷ [])
@@ -111,10 +112,10 @@ no_pins_of_a_check : request (codes "check" ∷ codes "features=f" ∷ codes "on
 no_pins_of_a_check = refl
 
 -- lines are full or bare, and a limit is a number up to 2^40
-bare_lines : request (codes "list" ∷ codes "insns=i" ∷ codes "max=0x10" ∷ codes "form=bare" ∷ []) ≡ Ok (AskList (record { insns = codes "i"; isa = codes "A64" }) true 16 unsaid)
+bare_lines : request (codes "list" ∷ codes "insns=i" ∷ codes "max=0x10" ∷ codes "form=bare" ∷ []) ≡ Ok (AskList (record { insns = codes "i"; isa = codes "A64" }) Bare 16 unsaid)
 bare_lines = refl
 
-full_lines : request (codes "list" ∷ codes "form=full" ∷ codes "max=1099511627776" ∷ codes "insns=i" ∷ []) ≡ Ok (AskList (record { insns = codes "i"; isa = codes "A64" }) false 1099511627776 unsaid)
+full_lines : request (codes "list" ∷ codes "form=full" ∷ codes "max=1099511627776" ∷ codes "insns=i" ∷ []) ≡ Ok (AskList (record { insns = codes "i"; isa = codes "A64" }) Full 1099511627776 unsaid)
 full_lines = refl
 
 other_form : request (codes "list" ∷ codes "form=Bare" ∷ codes "insns=i" ∷ []) ≡ Err 1
@@ -143,16 +144,16 @@ bad_before_missing : request (codes "list" ∷ codes "isa=X" ∷ codes "label=x"
 bad_before_missing = refl
 
 -- the keys of a command are those that its request is made of
-list_keys : list_command.asks.keys ≡ codes "insns" ∷ codes "isa" ∷ codes "form" ∷ codes "max" ∷ codes "features" ∷ codes "on" ∷ codes "off" ∷ []
+list_keys : list_verb.asks.keys ≡ codes "insns" ∷ codes "isa" ∷ codes "form" ∷ codes "max" ∷ codes "features" ∷ codes "on" ∷ codes "off" ∷ []
 list_keys = refl
 
-config_keys : config_command.asks.keys ≡ codes "features" ∷ codes "on" ∷ codes "off" ∷ []
+config_keys : config_verb.asks.keys ≡ codes "features" ∷ codes "on" ∷ codes "off" ∷ []
 config_keys = refl
 
-check_keys : check_command.asks.keys ≡ codes "insns" ∷ codes "isa" ∷ codes "features" ∷ []
+check_keys : check_verb.asks.keys ≡ codes "insns" ∷ codes "isa" ∷ codes "features" ∷ []
 check_keys = refl
 
-leaf_keys : leaf_command.asks.keys ≡ codes "insns" ∷ codes "isa" ∷ codes "label" ∷ []
+leaf_keys : leaf_verb.asks.keys ≡ codes "insns" ∷ codes "isa" ∷ codes "label" ∷ []
 leaf_keys = refl
 
 -- the first setting of a key gives its value
@@ -165,3 +166,24 @@ no_value = refl
 -- pins of both keys stand in the order of the words, also where they clash
 pins_in_order : pins_in ((codes "on", codes "A") ∷ (codes "insns", codes "i") ∷ (codes "off", codes "B") ∷ (codes "off", codes "A") ∷ []) ≡ (codes "A", true) ∷ (codes "B", false) ∷ (codes "A", false) ∷ []
 pins_in_order = refl
+
+-- a command has its pairs in the order of the words, whatever they mean; the same places are refused
+in_order : command (codes "list" ∷ codes "on=B" ∷ codes "max=0x10" ∷ codes "insns=a=b" ∷ codes "on=A" ∷ [])
+    ≡ Ok (record { verb = list_verb; pairs = (codes "on", codes "B") ∷ (codes "max", codes "0x10") ∷ (codes "insns", codes "a=b") ∷ (codes "on", codes "A") ∷ [] })
+in_order = refl
+
+no_pairs_refused : command [] ≡ Err 0
+no_pairs_refused = refl
+
+bad_pair_refused : command (codes "list" ∷ codes "isa=X" ∷ codes "label=x" ∷ []) ≡ Err 2
+bad_pair_refused = refl
+
+missing_key_refused : command (codes "check" ∷ codes "isa=A" ∷ []) ≡ Err 2
+missing_key_refused = refl
+
+-- the number of a key is that of its value; there is none where no pair has the key
+number_read : IsNumber (codes "max") ((codes "insns", codes "i") ∷ (codes "max", codes "0x10") ∷ []) (Some 16)
+number_read = refl
+
+number_not_said : IsNumber (codes "max") ((codes "insns", codes "i") ∷ []) None
+number_not_said = refl

@@ -1,4 +1,4 @@
-//! The settings behind a command.
+//! The keys and values behind a command.
 ghost use Rattle.std.specs.Prelude.{◌≡◌, map, string_bytes, option_map, IsTrue};
 ghost use Rattle.std.specs.List.{list_all};
 ghost use Rattle.spec_command.specs.Setting.{settings_in, value_in};
@@ -9,12 +9,12 @@ use crate::pins::Pins;
 use std::marker::Model;
 
 /// The keys and values of words, in their order, which they borrow.
-#[derive(Debug, Drop)]
-pub(crate) struct Settings<'a> {
+#[derive(Drop)]
+pub struct Pairs<'a> {
     words: &'a [String],
 }
 
-impl<'a> Model for Settings<'a> {
+impl<'a> Model for Pairs<'a> {
     ghost use Rattle.std.specs.Prelude.{List, ℕ, map, string_bytes, IsTrue};
     ghost use Rattle.std.specs.List.{list_all};
     ghost use Rattle.spec_command.specs.Setting.{settings_in};
@@ -27,20 +27,27 @@ impl<'a> Model for Settings<'a> {
     ghost invariant = { λ s. IsTrue (list_all is_setting (map string_bytes s.words.now)) };
 }
 
-impl<'a> Settings<'a> {
-    /// The settings that words say, of which each has a `=`.
-    pub(crate) fn new(words: &'a [String]) -> Settings<'a>
+impl<'a> Pairs<'a> {
+    /// The pairs that words say, of which each has a `=`.
+    pub(crate) fn new(words: &'a [String]) -> Pairs<'a>
         requires { IsTrue (list_all is_setting (map string_bytes words.now)) }
         ensures { result ≡ settings_in (map string_bytes words.now) }
     {
-        Settings { words }
+        Pairs { words }
     }
 
-    /// The value of the first setting with that key; `None` exactly where none has it.
+    /// The same pairs, to go through them.
+    pub(crate) fn again(&self) -> Pairs<'a>
+        ensures { result ≡ self.now }
+    {
+        Pairs::new(self.words)
+    }
+
+    /// The value of the first pair with that key; `None` exactly where none has it.
     pub(crate) fn value(&self, key: &str) -> Option<&'a str>
         ensures { option_map (λ value. value.now) result ≡ value_in key.now self.now }
     {
-        for (found, value) in Settings::new(self.words) {
+        for (found, value) in self.again() {
             if key == found {
                 return Some(value);
             }
@@ -48,22 +55,22 @@ impl<'a> Settings<'a> {
         None
     }
 
-    /// The pins among the settings, in their order.
+    /// The pins among the pairs, in their order.
     pub(crate) fn pins(&self) -> Pins<'a>
         ensures { result ≡ pins_in self.now }
     {
-        Pins::new(Settings::new(self.words))
+        Pins::new(self.again())
     }
 }
 
-impl<'a> Iterator for Settings<'a> {
+impl<'a> Iterator for Pairs<'a> {
     ghost use Rattle.std.specs.Iterator.{YieldsFirstBy, item_count};
 
     type Item = (&'a str, &'a str);
 
-    ghost next_gives = { YieldsFirstBy (λ setting. (setting.0.now, setting.1.now)) (λ settings. settings) };
+    ghost next_gives = { YieldsFirstBy (λ pair. (pair.0.now, pair.1.now)) (λ pairs. pairs) };
 
-    ghost remaining = { item_count (λ settings. settings) };
+    ghost remaining = { item_count (λ pairs. pairs) };
 
     fn next(&mut self) -> Option<(&'a str, &'a str)> {
         let (word, rest) = self.words.split_first()?;
