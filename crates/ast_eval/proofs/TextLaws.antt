@@ -1,6 +1,6 @@
 -- What names mean by texts that tell their numbers apart.
 use Rattle.std.proofs.Common.{get_or, ◌≡◌, ◌∙◌, refl, sym, ap, ap₂, ℕ, ◌==◌, Bool, true, false, ◌||◌, cond, List, [], ◌∷◌, length, map, bytes_eq, Option, Some, None, is_some, option_map, unwrap_or, IfSome, All}
-use Rattle.std.specs.Prelude.{find, zip}
+use Rattle.std.specs.Prelude.{find, zip, option_and_then}
 use Rattle.std.specs.List.{list_any}
 use Rattle.std.specs.Map.{lookup}
 use Rattle.std.specs.Option.{option_or}
@@ -8,7 +8,7 @@ use Rattle.std.proofs.lemmas.Bool.{eqb-true}
 use Rattle.std.proofs.lemmas.Bool.Decides.{Decides-eqb, Decides-like, same_from_decides}
 use Rattle.std.proofs.lemmas.Slice.Eq.{bytes_eq-Decides}
 use Rattle.std.proofs.lemmas.List.Elements.{All-head, All-tail}
-use Rattle.spec_expressions.specs.Scope.{Field, field_named, Flag, state_of}
+use Rattle.spec_expressions.specs.Scope.{Field, field_named, State, Flag, state_of}
 use Rattle.spec_expressions.specs.Operations.{ATruth, APattern, as_truth}
 use Rattle.spec_expressions.specs.Value.{name_value, state_value}
 use Rattle.spec_bits.specs.Bits.{slice}
@@ -17,7 +17,7 @@ use Rattle.bit_pattern.specs.declared.range.Range.{Range}
 use Rattle.spec_instructions.specs.Fields.{has_text, is_named, visible_item}
 use Rattle.mrs_arena.specs.Flat.{FlatItem}
 use Rattle.mrs_arena.specs.Nodes.{has_name_id}
-use Rattle.ast_eval.specs.Choices.{Choices, state_in, flag_of, configuration_of}
+use Rattle.ast_eval.specs.Choices.{Choices, state_in, flag, flag_in, parameter_of, configuration_of}
 use Rattle.ast_eval.specs.Fields.{last_named, bounds_of, item_by, fields_by}
 use Rattle.ast_eval.specs.EnvView.{range_bounds}
 use Rattle.ast_eval.specs.Views.{state_truth}
@@ -35,21 +35,21 @@ TellApart text P = (a b : ℕ) → P a → P b → bytes_eq (text a) (text b) �
 module _ (text : ℕ → List ℕ) (P : ℕ → Type 0) (apart : TellApart text P) where
   -- ---- parameters
 
-  pub state_of-flags : (name : ℕ) → P name → (names : List ℕ) (states : List Bool) → All P names
-      → option_map (λ p. p.state) (find (λ p. bytes_eq p.name (text name)) (map (flag_of text) (zip names states))) ≡ option_map Flag (lookup (λ other. name == other) (zip names states))
-  state_of-flags name held [] states all = refl
-  state_of-flags name held (n ∷ names) [] all = refl
-  state_of-flags name held (n ∷ names) (s ∷ states) all =
-      ap (λ b. option_map (λ p. p.state) (cond b (Some (flag_of text (n, s))) (find (λ p. bytes_eq p.name (text name)) (map (flag_of text) (zip names states))))) (apart n name (All-head P n names all) held)
-      ∙ go (name == n) (state_of-flags name held names states (All-tail P n names all))
+  pub state_of-lists : (name : ℕ) → P name → (names : List ℕ) (states : List State) → All P names
+      → option_map (λ p. p.state) (find (λ p. bytes_eq p.name (text name)) (map (parameter_of text) (zip names states))) ≡ lookup (λ other. name == other) (zip names states)
+  state_of-lists name held [] states all = refl
+  state_of-lists name held (n ∷ names) [] all = refl
+  state_of-lists name held (n ∷ names) (s ∷ states) all =
+      ap (λ b. option_map (λ p. p.state) (cond b (Some (parameter_of text (n, s))) (find (λ p. bytes_eq p.name (text name)) (map (parameter_of text) (zip names states))))) (apart n name (All-head P n names all) held)
+      ∙ go (name == n) (state_of-lists name held names states (All-tail P n names all))
     where
-      go : (b : Bool) → option_map (λ p. p.state) (find (λ p. bytes_eq p.name (text name)) (map (flag_of text) (zip names states))) ≡ option_map Flag (lookup (λ other. name == other) (zip names states))
-          → option_map (λ p. p.state) (cond b (Some (flag_of text (n, s))) (find (λ p. bytes_eq p.name (text name)) (map (flag_of text) (zip names states)))) ≡ option_map Flag (cond b (Some s) (lookup (λ other. name == other) (zip names states)))
+      go : (b : Bool) → option_map (λ p. p.state) (find (λ p. bytes_eq p.name (text name)) (map (parameter_of text) (zip names states))) ≡ lookup (λ other. name == other) (zip names states)
+          → option_map (λ p. p.state) (cond b (Some (parameter_of text (n, s))) (find (λ p. bytes_eq p.name (text name)) (map (parameter_of text) (zip names states)))) ≡ cond b (Some s) (lookup (λ other. name == other) (zip names states))
       go true rest = refl
       go false rest = rest
 
-  pub state_of-text : (name : ℕ) → P name → (c : Choices) → All P c.names → state_of (text name) (configuration_of text c) ≡ option_map Flag (state_in name c)
-  state_of-text name held c all = state_of-flags name held c.names c.states all
+  pub state_of-text : (name : ℕ) → P name → (c : Choices) → All P c.names → state_of (text name) (configuration_of text c) ≡ state_in name c
+  state_of-text name held c all = state_of-lists name held c.names c.states all
 
   -- ---- fields
 
@@ -127,7 +127,7 @@ none_left items k d within = any (get_or items k d).name
 pub field_named-own : (name : ℕ) (items : List FlatItem) → field_named (own_text name) (fields_by own_text items) ≡ option_map (field_of own_text (λ _. Unit {0}) own_apart name) (last_named name items)
 field_named-own name items = field_named-text own_text (λ _. Unit {0}) own_apart name tt items (none_left items)
 
-pub state_of-own : (name : ℕ) (c : Choices) → state_of (own_text name) (configuration_of own_text c) ≡ option_map Flag (state_in name c)
+pub state_of-own : (name : ℕ) (c : Choices) → state_of (own_text name) (configuration_of own_text c) ≡ state_in name c
 state_of-own name c = state_of-text own_text (λ _. Unit {0}) own_apart name tt c (λ k d within. tt)
 
 -- the bits of a field where the bounds of the last item are those of a range
@@ -144,24 +144,24 @@ name_value-some name w items c range is = go (last_named name items) is ∙ ap (
 
 -- the state of the parameter where there is no item
 pub name_value-none : (name w : ℕ) (items : List FlatItem) (c : Choices) → None ≡ option_map bounds_of (last_named name items)
-    → ATruth (state_truth (state_in name c)) ≡ name_value (field_named (own_text name) (fields_by own_text items)) (state_of (own_text name) (configuration_of own_text c)) w
+    → ATruth (state_truth (flag_in name c)) ≡ name_value (field_named (own_text name) (fields_by own_text items)) (state_of (own_text name) (configuration_of own_text c)) w
 name_value-none name w items c is =
     value-state (state_in name c)
     ∙ ap state_value (sym (state_of-own name c))
     ∙ go (last_named name items) is
     ∙ ap (λ o. name_value o (state_of (own_text name) (configuration_of own_text c)) w) (sym (field_named-own name items))
   where
-    value-state : (o : Option Bool) → ATruth (state_truth o) ≡ state_value (option_map Flag o)
+    value-state : (o : Option State) → ATruth (state_truth (option_and_then flag o)) ≡ state_value o
     value-state None = refl
-    value-state (Some b) = refl
+    value-state (Some (Flag b)) = refl
 
     go : (o : Option FlatItem) → None ≡ option_map bounds_of o → state_value (state_of (own_text name) (configuration_of own_text c)) ≡ name_value (option_map (field_of own_text (λ _. Unit {0}) own_apart name) o) (state_of (own_text name) (configuration_of own_text c)) w
     go None e = refl
     go (Some it) e = absurd (cc)
 
-pub state_truth-own : (name : ℕ) (c : Choices) → state_truth (state_in name c) ≡ as_truth (state_value (state_of (own_text name) (configuration_of own_text c)))
+pub state_truth-own : (name : ℕ) (c : Choices) → state_truth (flag_in name c) ≡ as_truth (state_value (state_of (own_text name) (configuration_of own_text c)))
 state_truth-own name c = go (state_in name c) ∙ ap (λ o. as_truth (state_value o)) (sym (state_of-own name c))
   where
-    go : (o : Option Bool) → state_truth o ≡ as_truth (state_value (option_map Flag o))
+    go : (o : Option State) → state_truth (option_and_then flag o) ≡ as_truth (state_value o)
     go None = refl
-    go (Some b) = refl
+    go (Some (Flag b)) = refl

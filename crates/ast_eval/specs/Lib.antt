@@ -1,9 +1,12 @@
-pub mod BitNumber
-pub mod Called
+-- Evaluation, to be read in this order: what this crate's types stand for; the fields that are visible at a node; the configuration
+-- that choices stand for; what an expression is worth. Behind them, for the code alone: what the fields of its structs stand
+-- for, and steps on the way.
+pub mod Views
+pub mod Fields
 pub mod Choices
+pub mod Worth
 pub mod ConfigView
 pub mod EnvView
-pub mod Fields
+pub mod Called
 pub mod Rows
-pub mod Views
-pub mod Worth
+pub mod BitNumber

@@ -13,8 +13,7 @@ mod named;
 mod operators;
 mod row;
 mod shared;
-#[cfg(test)]
-mod tests;
+mod state;
 mod val;
 mod worth;
 
@@ -22,5 +21,6 @@ pub use config::Config;
 pub use env::Env;
 pub use kleene::Truth;
 pub use memory::NoMemory;
+pub use state::State;
 pub use val::Val;
 pub use worth::{eval, truth};

@@ -4,7 +4,7 @@ ghost use Rattle.std.specs.Prelude.{◌≡◌, ◌<◌, length};
 ghost use Rattle.spec_expressions.specs.Expression.{Name, no_exprs, expr, with_names};
 ghost use Rattle.spec_expressions.specs.Value.{implemented};
 ghost use Rattle.mrs_arena.specs.Expressions.{expr_at};
-ghost use Rattle.ast_eval.specs.Choices.{state_in, configuration_of};
+ghost use Rattle.ast_eval.specs.Choices.{flag_in, configuration_of};
 ghost use Rattle.ast_eval.specs.Views.{truth_of, value_of, state_truth};
 ghost use Rattle.ast_eval.specs.Worth.{value_by, own_text};
 
@@ -38,7 +38,7 @@ pub(crate) fn is_implemented(arena: &Arena, feature: ExprId, config: &Config) ->
 }
 
 fn state_truth(name: NameId, config: &Config) -> Truth
-    ensures { truth_of result ≡ state_truth (state_in name.0 config.now) }
+    ensures { truth_of result ≡ state_truth (flag_in name.0 config.now) }
 {
     match config.state(name) {
         Some(is_on) => Truth::known(is_on),

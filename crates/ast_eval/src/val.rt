@@ -4,7 +4,7 @@ use crate::kleene::Truth;
 use bit_pattern::Pattern;
 
 /// A truth, a whole number, or bits, some of which may be `x`.
-#[derive(Clone, Copy, PartialEq, Eq, Debug)]
+#[derive(Clone, Copy)]
 pub enum Val {
     Truth(Truth),
     Int(i128),

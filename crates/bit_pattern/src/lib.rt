@@ -14,6 +14,3 @@ pub use fault::PatternFault;
 pub use pattern::Pattern;
 pub use range::Range;
 pub use slicing::slice;
-
-#[cfg(test)]
-mod tests;

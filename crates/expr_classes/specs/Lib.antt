@@ -1,2 +1,3 @@
-pub mod Terms
+-- Classes, to be read in this order: the classes of expressions that state one fact; what keys stand for.
 pub mod Classes
+pub mod Terms

@@ -67,6 +67,23 @@ fn class_of(
     }
 }
 
+/// The classes of the expressions of an arena, in order, which join the table.
+fn all_classes(
+    alloc: Global,
+    table: &mut Table,
+    arena: &Arena,
+) -> Result<Vec<Option<usize>>, NoMemory>
+    ensures count { IfOk result (λ classes. length classes.items ≡ length arena.now.exprs) }
+    ensures all { IfOk result (λ classes. AllStand table.new classes.items arena.now.exprs) }
+{
+    let mut classes = Vec::new(alloc);
+    for e in 0..arena.expr_count() {
+        let class = class_of(table, &classes, arena, ExprId(e))?;
+        classes.push(class)?;
+    }
+    Ok(classes)
+}
+
 /// The classes of the expressions of an arena. Two have one class exactly where they are equal part by part and no Other stands in
 /// them; an expression in which one stands has no class.
 pub fn number(alloc: Global, arena: &Arena) -> Result<Classes, NoMemory>
@@ -74,11 +91,7 @@ pub fn number(alloc: Global, arena: &Arena) -> Result<Classes, NoMemory>
     ensures below { IfOk result AreBelow }
 {
     let mut table = Table::new(alloc);
-    let mut classes = Vec::new(alloc);
-    for e in 0..arena.expr_count() {
-        let class = class_of(&mut table, &classes, arena, ExprId(e))?;
-        classes.push(class)?;
-    }
+    let classes = all_classes(alloc, &mut table, arena)?;
     let count = table.len();
     Ok(Classes::from_parts(classes, count))
 }

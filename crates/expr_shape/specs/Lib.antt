@@ -1,1 +1,2 @@
+-- What the shapes of the code stand for.
 pub mod Shapes

@@ -5,7 +5,7 @@ use mrs_arena::Op;
 use serde_json::Value;
 
 /// What an object says of itself as an expression. Its texts are those of the object.
-#[derive(Clone, Copy, Debug)]
+#[derive(Clone, Copy)]
 pub enum Shape<'v> {
     Truth(bool),
     Integer(i64),

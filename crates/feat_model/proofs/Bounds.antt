@@ -1,5 +1,6 @@
 -- The clauses of a model are within the limits of the solver.
-use Rattle.std.proofs.Common.{◌≡◌, ℕ, ◌<◌, ◌≤◌, ℤ, List, [], ◌∷◌, length, Option, Some, None, nat_eq, sym, subst, arith}
+use Rattle.std.proofs.Common.{◌≡◌, ℕ, ◌<◌, ◌≤◌, ℤ, List, [], ◌∷◌, length, Option, Some, None, Result, Ok, Err, nat_eq, sym, subst, arith}
+use Rattle.std.specs.Prelude.{IfOk}
 use Rattle.std.specs.List.{AllByRecursion, filter_map, cons_option}
 use Rattle.std.proofs.lemmas.List.{length-append}
 use Rattle.spec_refutation.specs.Reading.{IsClause}
@@ -18,14 +19,16 @@ filter_map_few f (x ∷ xs) = go (f x) (filter_map_few f xs)
     go None le = omega (arith, le)
     go (Some y) le = omega (arith, le)
 
-pub made_within : (t : TheoryOf ℕ) (pins : List (PinOf ℕ)) (c : ℕ × List (List ℤ)) → IsModel t → c ≡ (variables t, clauses nat_eq t pins) → AllByRecursion (IsClause c.0) c.1
-made_within t pins c is made =
+pub made_within : {E : Type 0} (t : TheoryOf ℕ) (pins : List (PinOf ℕ)) (r : Result (ℕ × List (List ℤ)) E) → IsModel t → IfOk r (λ c. c ≡ (variables t, clauses nat_eq t pins)) → IfOk r (λ c. AllByRecursion (IsClause c.0) c.1)
+made_within t pins (Err e) is made = tt
+made_within t pins (Ok c) is made =
     let P : ℕ × List (List ℤ) → Type 0 = λ d. AllByRecursion (IsClause d.0) d.1 in
     subst P (sym made) (theory_bounded nat_eq t is.closed pins)
 
-pub made_few : (t : TheoryOf ℕ) (pins : List (PinOf ℕ)) (c : ℕ × List (List ℤ)) → IsModel t → length pins ≤ 4096 → c ≡ (variables t, clauses nat_eq t pins)
-    → (c.0 ≤ 2147483647) × (length c.1 < 2147483648)
-made_few t pins c is few made =
+pub made_few : {E : Type 0} (t : TheoryOf ℕ) (pins : List (PinOf ℕ)) (r : Result (ℕ × List (List ℤ)) E) → IsModel t → length pins ≤ 4096 → IfOk r (λ c. c ≡ (variables t, clauses nat_eq t pins))
+    → IfOk r (λ c. (c.0 ≤ 2147483647) × (length c.1 < 2147483648))
+made_few t pins (Err e) is few made = tt
+made_few t pins (Ok c) is few made =
     let P : ℕ × List (List ℤ) → Type 0 = λ d. (d.0 ≤ 2147483647) × (length d.1 < 2147483648) in
     let own = constraints_from (states t) t.constraints in
     subst P (sym made) (

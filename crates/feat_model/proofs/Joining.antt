@@ -9,8 +9,8 @@ use Rattle.std.proofs.lemmas.List.{map-append}
 use Rattle.std.proofs.lemmas.Option.{slice_get_within, get_or_from_slice_get}
 use Rattle.spec_features.specs.Features.{ParamOf, is_boolean, booleans}
 use Rattle.mrs_names.specs.declared.name_id.NameId.{NameId}
-use Rattle.mrs_schema.specs.declared.features.Param.{Param}
-use Rattle.mrs_schema.specs.FeatureViews.{param_kind_of, param_of}
+use Rattle.features_reader.specs.declared.features.Param.{Param}
+use Rattle.features_reader.specs.FeatureViews.{param_kind_of, param_of}
 use Rattle.feat_model.specs.Meets.{numbers_of, with_name, ComeFrom}
 
 abbrev same_name : NameId → NameId → Bool

@@ -12,9 +12,9 @@ use Rattle.spec_features.proofs.Uses.{theory_uses, formulas_few}
 use Rattle.mrs_names.specs.declared.name_id.NameId.{NameId}
 use Rattle.mrs_arena.specs.Expressions.{expr_at}
 use Rattle.mrs_arena.specs.declared.expr_id.ExprId.{ExprId}
-use Rattle.mrs_schema.specs.declared.features.Param.{Param}
-use Rattle.mrs_schema.specs.declared.features.Features.{Features}
-use Rattle.mrs_schema.specs.FeatureViews.{param_of, features_of, AreFeatures}
+use Rattle.features_reader.specs.declared.features.Param.{Param}
+use Rattle.features_reader.specs.declared.features.Features.{Features}
+use Rattle.features_reader.specs.FeatureViews.{param_of, features_of, AreFeatures}
 use Rattle.feat_model.specs.declared.formula.Formula.{Formula}
 use Rattle.feat_model.specs.Found.{atoms_of}
 use Rattle.feat_model.specs.Meets.{exprs_at, numbers_of, MeetAll}

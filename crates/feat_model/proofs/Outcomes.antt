@@ -1,5 +1,5 @@
 -- What the solver's answer says of configurations.
-use Rattle.std.proofs.Common.{◌≡◌, ℕ, ◌+◌, ◌≤◌, ℤ, Bool, true, List, [], ◌∷◌, ◌++◌, take, drop, length, nat_eq, sym, ap, ◌∙◌, subst, arith}
+use Rattle.std.proofs.Common.{◌≡◌, ℕ, ◌+◌, ◌≤◌, ℤ, Bool, true, List, [], ◌∷◌, ◌++◌, take, drop, length, map, nat_eq, sym, ap, ◌∙◌, subst, arith}
 use Rattle.std.specs.List.{AllByRecursion}
 use Rattle.std.proofs.lemmas.List.{length-take}
 use Rattle.std.proofs.Math.Seq.{take-add}
@@ -9,6 +9,7 @@ use Rattle.spec_refutation.specs.Reading.{IsClause, IsHint, IsStep, IsLog}
 use Rattle.spec_refutation.specs.First.{IsFirst, IsRefutation, assignment}
 use Rattle.spec_refutation.proofs.Sound.{refutes_sound}
 use Rattle.spec_refutation.proofs.Hinted as hinted
+use Rattle.spec_expressions.specs.Scope.{Flag}
 use Rattle.spec_features.specs.Theory.{TheoryOf, states}
 use Rattle.spec_features.specs.Fits.{PinOf, Fits, IsFirstFitting}
 use Rattle.spec_features.specs.Clauses.{variables, clauses}
@@ -26,16 +27,18 @@ pub first_reaches : (t : TheoryOf ℕ) (pins : List (PinOf ℕ)) (c : ℕ × Lis
 first_reaches t pins c all made first = omega (arith, first.whole, ap (λ (d : ℕ × List (List ℤ)). d.0) made, from_grows (states t) t.constraints)
 
 pub first_chosen : (t : TheoryOf ℕ) (pins : List (PinOf ℕ)) (c : ℕ × List (List ℤ)) (all : List Bool) (g : Choices) → IsModel t → c ≡ Clauses t pins → IsFirst c.0 c.1 all
-    → g.names ≡ t.names → g.states ≡ take (length t.names) all → g.atoms ≡ take t.atoms (drop (length t.names) all) → IsChosen t pins g
+    → g.names ≡ t.names → g.states ≡ map Flag (take (length t.names) all) → g.atoms ≡ take t.atoms (drop (length t.names) all) → IsChosen t pins g
 first_chosen t pins c all g is made first names states_are atoms_are =
     let P : ℕ × List (List ℤ) → Type 0 = λ d. IsFirst d.0 d.1 all in
     let Q : List Bool → Type 0 = λ h. IsFirstFitting nat_eq t pins h in
     let le = first_reaches t pins c all made first in
-    let whole : take (states t) all ≡ g.states ++ g.atoms =
-    take-add (length t.names) t.atoms all ∙ ap (λ h. h ++ take t.atoms (drop (length t.names) all)) (sym states_are) ∙ ap (λ h. g.states ++ h) (sym atoms_are) in
+    let flags = take (length t.names) all in
+    let whole : take (states t) all ≡ flags ++ g.atoms = take-add (length t.names) t.atoms all ∙ ap (λ h. flags ++ h) (sym atoms_are) in
     record {
       names_are = names;
-      as_many = ap length states_are ∙ cut (length t.names) all (omega (arith, le));
+      flags = flags;
+      states_are = states_are;
+      as_many = cut (length t.names) all (omega (arith, le));
       first = subst Q whole (first_configuration nat_eq t is.closed pins all (subst P made first));
     }
   where
@@ -49,7 +52,7 @@ fitting_satisfies t pins c g is made fits =
     ap (λ (d : ℕ × List (List ℤ)). satisfies (assignment (g ++ extension t g)) d.1) made ∙ fitting_solves nat_eq t is.closed pins g fits
 
 pub first_fits : (t : TheoryOf ℕ) (pins : List (PinOf ℕ)) (g : Choices) → IsChosen t pins g → ((h : List Bool) → Fits nat_eq t pins h → ⊥) → ⊥
-first_fits t pins g chosen none = none (g.states ++ g.atoms) chosen.first.fits
+first_fits t pins g chosen none = none (chosen.flags ++ g.atoms) chosen.first.fits
 
 pub none_fits : (t : TheoryOf ℕ) (pins : List (PinOf ℕ)) (c : ℕ × List (List ℤ)) (steps : List Step) (g : List Bool) → IsModel t → c ≡ Clauses t pins → IsRefutation c.0 c.1 steps
     → Fits nat_eq t pins g → ⊥

@@ -3,14 +3,14 @@ use Rattle.std.specs.Prelude.{◌≡◌, ℕ, ◌<◌, ◌≤◌, List, length, 
 use Rattle.std.specs.List.{list_any}
 use Rattle.indexmap.specs.IndexSet.{insert_key}
 use Rattle.spec_features.specs.Features.{is_boolean}
-use Rattle.mrs_schema.specs.FeatureViews.{param_kind_of}
+use Rattle.features_reader.specs.FeatureViews.{param_kind_of}
 use Rattle.spec_expressions.specs.Expression.{ExprOf}
 use Rattle.spec_features.specs.Formula as spec
 use Rattle.spec_features.specs.Theory.{Met}
 use Rattle.mrs_names.specs.declared.name_id.NameId.{NameId}
 use Rattle.mrs_arena.specs.Expressions.{expr_at}
 use Rattle.mrs_arena.specs.declared.expr_id.ExprId.{ExprId}
-use Rattle.mrs_schema.specs.declared.features.Param.{Param}
+use Rattle.features_reader.specs.declared.features.Param.{Param}
 use Rattle.expr_classes.specs.Classes.{Numbered, AreClasses, AreBelow}
 use Rattle.feat_model.specs.declared.formula.Formula.{Formula}
 use Rattle.feat_model.specs.Views.{formula_of}

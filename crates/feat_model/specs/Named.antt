@@ -39,14 +39,28 @@ abbrev pub ComesTo : List (List ℕ) → TheoryOf (List ℕ) → List (PinOf (Li
 ComesTo names t pins (Chosen config) = first_configuration t pins ≡ Some (configuration_of (text_of names) config)
 ComesTo names t pins (Refuted cnf log) = IsRefutedBy t pins cnf log
 
--- where each pin names a boolean parameter; else the fault is that of the first that does not, unless memory ran out
+-- where each pin names a boolean parameter, something holds of what comes; else the fault is that of the first that does not,
+-- unless memory ran out
+abbrev pub AnswersBy : {A : Type 0} → (A → Type 0) → TheoryOf (List ℕ) → List (PinOf (List ℕ)) → Result A ModelFault → Type 0
+AnswersBy Holds t pins (Ok come) = (unknown_pin bytes_eq t.names pins ≡ None) × Holds come
+AnswersBy Holds t pins (Err (UnknownFeature k)) = unknown_pin bytes_eq t.names pins ≡ Some k
+AnswersBy Holds t pins (Err NoMemory) = ⊤
+
 abbrev pub Answers : List (List ℕ) → TheoryOf (List ℕ) → List (PinOf (List ℕ)) → Result Outcome ModelFault → Type 0
-Answers names t pins (Ok outcome) = (unknown_pin bytes_eq t.names pins ≡ None) × ComesTo names t pins outcome
-Answers names t pins (Err (UnknownFeature k)) = unknown_pin bytes_eq t.names pins ≡ Some k
-Answers names t pins (Err NoMemory) = ⊤
+Answers names t pins result = AnswersBy (ComesTo names t pins) t pins result
 
 -- so it is of features with the texts of their names, whatever these are, as long as each number has its own
 abbrev pub IsNamed : TheoryOf ℕ → List (PinOf ℕ) → Result Outcome ModelFault → Type 0
 IsNamed t pins result =
     (names : List (List ℕ)) (f : FeaturesOf ℕ) → AreHeld names f pins → t ≡ theory nat_eq f
     → Answers names (theory bytes_eq (with_names (text_of names) f)) (pins_in names pins) result
+
+-- clauses with the number of all variables are those of features and pins
+abbrev pub AreClauses : TheoryOf (List ℕ) → List (PinOf (List ℕ)) → ℕ × List (List ℤ) → Type 0
+AreClauses t pins cnf = cnf ≡ (variables t, clauses bytes_eq t pins)
+
+-- they too are those of features with the texts of their names, whatever these are, as long as each number has its own
+abbrev pub AreNamedClauses : TheoryOf ℕ → List (PinOf ℕ) → Result (ℕ × List (List ℤ)) ModelFault → Type 0
+AreNamedClauses t pins result =
+    (names : List (List ℕ)) (f : FeaturesOf ℕ) → AreHeld names f pins → t ≡ theory nat_eq f
+    → AnswersBy (AreClauses (theory bytes_eq (with_names (text_of names) f)) (pins_in names pins)) (theory bytes_eq (with_names (text_of names) f)) (pins_in names pins) result

@@ -9,6 +9,7 @@ ghost use Rattle.spec_features.specs.Clauses.{variables, clauses, constraints_fr
 ghost use Rattle.feat_model.specs.Views.{formula_of};
 ghost use Rattle.feat_model.specs.Inside.{IsModel};
 ghost use Rattle.feat_model.specs.Encodes.{HasRoom, HasRoomForAll};
+ghost use Rattle.feat_model.specs.Named.{AreNamedClauses};
 
 use crate::encoder::{Encoder, positive};
 use crate::faults::ModelFault;
@@ -120,8 +121,10 @@ impl Model {
         ensures within { IfOk result (λ c. AllByRecursion (IsClause c.0) c.1) }
         ensures few { IfOk result (λ c. (c.0 ≤ 2147483647) × (length c.1 < 2147483648)) }
         ensures formed { IsModel self.now }
+
+        // With the texts of names they are the same, as long as each number has its own.
+        ensures named { AreNamedClauses self.now pins.now result }
     {
-        let cnf = self.put_together(alloc, pins)?;
-        Ok(cnf)
+        self.put_together(alloc, pins)
     }
 }

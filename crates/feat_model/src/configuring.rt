@@ -1,6 +1,7 @@
 //! The first configuration that fits features and pins.
 
 ghost use Rattle.std.specs.Prelude.{◌≡◌, ◌↔◌, ℕ, Bool, List, ◌≤◌, nat_eq, length, map, take, drop, None, Some, Err, OnOk, IfOk};
+ghost use Rattle.spec_expressions.specs.Scope.{Flag};
 ghost use Rattle.spec_features.specs.Theory.{states};
 ghost use Rattle.spec_features.specs.Fits.{Fits, unknown_pin};
 ghost use Rattle.feat_model.specs.Configures.{Configures, IsRefused};
@@ -18,7 +19,7 @@ use std::alloc::Global;
 fn configuration(alloc: Global, model: &Model, all: &[bool]) -> Result<Config, NoMemory>
     requires { states model.now ≤ length all.now }
     ensures names { IfOk result (λ c. c.names ≡ model.now.names) }
-    ensures states { IfOk result (λ c. c.states ≡ take (length model.now.names) all.now) }
+    ensures states { IfOk result (λ c. c.states ≡ map Flag (take (length model.now.names) all.now)) }
     ensures atoms { IfOk result (λ c. c.atoms ≡ take model.now.atoms (drop (length model.now.names) all.now)) }
 {
     let parameters = model.name_count() as usize;

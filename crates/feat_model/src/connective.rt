@@ -1,7 +1,7 @@
 //! Connectives of two sides.
 
 /// A connective of two sides.
-#[derive(Clone, Copy, PartialEq, Eq, Debug)]
+#[derive(Clone, Copy)]
 pub(crate) enum Connective {
     Conjunction,
     Disjunction,

@@ -3,7 +3,7 @@
 use crate::connective::Connective;
 
 /// A formula. Variables are numbered from 1.
-#[derive(Debug, Drop)]
+#[derive(Drop)]
 pub(crate) enum Formula {
     Constant(bool),
     Variable(u32),

@@ -9,6 +9,7 @@ mod connective;
 mod encoder;
 mod faults;
 mod formula;
+mod kinds;
 mod making;
 mod model;
 mod operators;
@@ -20,9 +21,8 @@ mod translation;
 
 pub use configuring::configure;
 pub use faults::ModelFault;
+pub use feat_proof::NoMemory;
+pub use kinds::is_boolean;
 pub use model::Model;
 pub use outcome::Outcome;
 pub use pin::Pin;
-
-#[cfg(test)]
-mod tests;

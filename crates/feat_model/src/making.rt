@@ -2,16 +2,18 @@
 
 ghost use Rattle.std.specs.Prelude.{◌≡◌, ◌≢◌, ◌+◌, ◌<◌, ◌≤◌, nat_eq, length, map, sum_by, All, AllPairs, IfOk, OnOk};
 ghost use Rattle.mrs_arena.specs.Expressions.{expr_at};
-ghost use Rattle.mrs_schema.specs.FeatureViews.{param_kind_of, param_of, features_of, AreFeatures};
-ghost use Rattle.spec_features.specs.Features.{is_boolean, booleans};
+ghost use Rattle.features_reader.specs.FeatureViews.{param_of, features_of, AreFeatures};
+ghost use Rattle.spec_features.specs.Features.{booleans};
 ghost use Rattle.spec_features.specs.Theory.{formulas, theory, parts};
 ghost use Rattle.expr_classes.specs.Classes.{AreBelow, AreClasses};
 ghost use Rattle.feat_model.specs.Views.{formula_of};
 ghost use Rattle.feat_model.specs.Found.{atoms_of, AreNumbered};
+ghost use Rattle.feat_model.specs.Inside.{theory_of};
 ghost use Rattle.feat_model.specs.Meets.{exprs_at, numbers_of, IsScope, MeetAll, with_name};
 
 use crate::atoms::Atoms;
 use crate::formula::Formula;
+use crate::kinds::is_boolean;
 use crate::model::Model;
 use crate::scope::Scope;
 use crate::translation::formula;
@@ -20,18 +22,8 @@ use feat_proof::NoMemory;
 use indexmap::IndexSet;
 use mrs_arena::{Arena, ExprId};
 use mrs_names::NameId;
-use mrs_schema::{Features, Param, ParamKind};
+use mrs_schema::{Features, Param};
 use std::alloc::Global;
-
-/// Whether a parameter is on or off.
-fn is_boolean(kind: ParamKind) -> bool
-    ensures { result ≡ is_boolean (param_kind_of kind) }
-{
-    match kind {
-        ParamKind::Boolean => true,
-        ParamKind::Integer | ParamKind::Enum => false,
-    }
-}
 
 /// The classes of the expressions.
 fn classes_of(alloc: Global, arena: &Arena) -> Result<Classes, NoMemory>
@@ -89,22 +81,37 @@ fn formulas(
     Ok(all)
 }
 
+/// The constraints of features as formulas over the boolean parameters, which have these names, and over atoms; and how many
+/// atoms there are.
+fn translated(
+    alloc: Global,
+    f: &Features,
+    names: &IndexSet<NameId>,
+) -> Result<(Vec<Formula>, u32), NoMemory>
+    requires sound { AreFeatures f.now }
+    requires names { numbers_of names.now.keys ≡ booleans (map param_of f.now.params.items) }
+    ensures { IfOk result (λ r. theory_of names.now.keys r.1 r.0.items ≡ theory nat_eq (features_of f.now)) }
+{
+    let classes = classes_of(alloc, &f.arena)?;
+    let mut atoms = Atoms::new(alloc, &classes)?;
+    let scope = Scope {
+        arena: &f.arena,
+        classes: &classes,
+        names,
+    };
+    let constraints = formulas(alloc, &scope, &mut atoms, &f.constraints)?;
+    let found = atoms.found.len() as u32;
+    Ok((constraints, found))
+}
+
 impl Model {
     /// The boolean parameters of features, and their constraints as formulas over parameters and atoms.
     pub fn new(alloc: Global, f: &Features) -> Result<Model, NoMemory>
         requires { AreFeatures f.now }
         ensures { IfOk result (λ m. m ≡ theory nat_eq (features_of f.now)) }
     {
-        let classes = classes_of(alloc, &f.arena)?;
         let names = boolean_names(alloc, &f.params)?;
-        let scope = Scope {
-            arena: &f.arena,
-            classes: &classes,
-            names: &names,
-        };
-        let mut atoms = Atoms::new(alloc, &classes)?;
-        let constraints = formulas(alloc, &scope, &mut atoms, &f.constraints)?;
-        let found = atoms.found.len() as u32;
-        Ok(Model::from_parts(names, found, constraints))
+        let (constraints, atoms) = translated(alloc, f, &names)?;
+        Ok(Model::from_parts(names, atoms, constraints))
     }
 }

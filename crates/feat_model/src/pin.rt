@@ -6,7 +6,7 @@ use mrs_names::NameId;
 use std::marker::Model;
 
 /// A pin: a boolean parameter that is to be on, or off. Contracts see the pair of the name's number and the state.
-#[derive(Clone, Copy, PartialEq, Eq, Debug)]
+#[derive(Clone, Copy)]
 pub struct Pin {
     pub name: NameId,
     pub on: bool,

@@ -3,11 +3,14 @@
 ghost use Rattle.std.specs.Prelude.{◌≡◌, ◌+◌, ◌<◌, ◌≤◌, nat_eq, length, IfOk, IfSome, OnOk};
 ghost use Rattle.mrs_arena.specs.Expressions.{expr_at};
 ghost use Rattle.spec_features.specs.Theory.{parameter, leaf, formula, parts};
+ghost use Rattle.spec_features.specs.Formula.{Negation, Joined};
+ghost use Rattle.feat_model.specs.Views.{connective_of, formula_of};
 ghost use Rattle.feat_model.specs.Found.{atoms_of, AreNumbered};
 ghost use Rattle.feat_model.specs.Meets.{numbers_of, IsScope, Meets};
 
 use crate::asking::asked_name;
 use crate::atoms::Atoms;
+use crate::connective::Connective;
 use crate::formula::Formula;
 use crate::operators::connective;
 use crate::parameters::parameter;
@@ -48,6 +51,25 @@ fn leaf(scope: &Scope<'_>, atoms: &mut Atoms, e: ExprId) -> Result<Formula, NoMe
     Ok(Formula::Variable(before + k + 1))
 }
 
+/// The negation of a formula.
+fn negation(alloc: Global, part: Formula) -> Result<Formula, NoMemory>
+    ensures { IfOk result (λ f. formula_of f ≡ Negation (formula_of part)) }
+{
+    Ok(Formula::Negation(Box::new(alloc, part)?))
+}
+
+/// Two formulas joined by a connective.
+fn joined(
+    alloc: Global,
+    connective: Connective,
+    left: Formula,
+    right: Formula,
+) -> Result<Formula, NoMemory>
+    ensures { IfOk result (λ f. formula_of f ≡ Joined (connective_of connective) (formula_of left) (formula_of right)) }
+{
+    Ok(Formula::Joined(connective, Box::new(alloc, left)?, Box::new(alloc, right)?))
+}
+
 /// The formula of a constraint, or of a part of one.
 pub(crate) fn formula(
     alloc: Global,
@@ -68,13 +90,13 @@ pub(crate) fn formula(
         ExprRef::Truth(truth) => Ok(Formula::Constant(truth)),
         ExprRef::Not(part) => {
             let part = formula(alloc, scope, atoms, part)?;
-            Ok(Formula::Negation(Box::new(alloc, part)?))
+            negation(alloc, part)
         }
         ExprRef::Binary(op, left, right) => match connective(op) {
             Some(connective) => {
                 let left = formula(alloc, scope, atoms, left)?;
                 let right = formula(alloc, scope, atoms, right)?;
-                Ok(Formula::Joined(connective, Box::new(alloc, left)?, Box::new(alloc, right)?))
+                joined(alloc, connective, left, right)
             }
             None => leaf(scope, atoms, e),
         },

@@ -7,7 +7,7 @@ use std::marker::Model;
 
 /// A clause: it is true where one of its literals is, so the empty one never is. Contracts see the
 /// list of its literals.
-#[derive(Debug, Drop)]
+#[derive(Drop)]
 pub struct Clause {
     /// The literals, in the order in which they are written.
     pub lits: Vec<Lit>,

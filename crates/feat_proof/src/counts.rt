@@ -11,7 +11,7 @@ const MOST_VARS: u64 = 2_147_483_647;
 
 /// What the first line says: the numbers of variables, of clauses, of steps, and of clauses and
 /// steps together.
-#[derive(Clone, Copy, Debug)]
+#[derive(Clone, Copy)]
 pub struct Counts {
     pub vars: u32,
     pub clauses: u64,

@@ -7,7 +7,7 @@ use std::marker::Model;
 
 /// Clauses in conjunctive normal form: all of them are to hold. Contracts see the number of
 /// variables and the list of clauses.
-#[derive(Debug, Drop)]
+#[derive(Drop)]
 pub struct Cnf {
     /// The number of variables, which are numbered from 1 to this.
     pub vars: u32,

@@ -35,6 +35,3 @@ pub use printing::print_log;
 pub use reading::read_log;
 pub use steps::Step;
 pub use verdicts::Verdict;
-
-#[cfg(test)]
-mod tests;

@@ -6,7 +6,7 @@ use crate::steps::Step;
 use std::marker::Model;
 
 /// A log: its steps in order. Contracts see the list of them.
-#[derive(Debug, Drop)]
+#[derive(Drop)]
 pub struct Log {
     /// The steps, in the order in which they are checked.
     pub steps: Vec<Step>,

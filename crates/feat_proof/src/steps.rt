@@ -8,7 +8,7 @@ use std::marker::Model;
 
 /// A step: a clause, and the numbers of the clauses by which it follows, counted from 1, steps going on
 /// after the clauses. Contracts see the pair of its literals and its hints.
-#[derive(Debug, Drop)]
+#[derive(Drop)]
 pub struct Step {
     /// The clause that the step adds.
     pub clause: Clause,

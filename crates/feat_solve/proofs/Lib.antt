@@ -11,3 +11,4 @@ pub mod Beyond
 pub mod Tabled
 pub mod Printed
 pub mod Lemmas
+pub mod Searches

@@ -1,8 +1,10 @@
--- What the solver answers; how far clauses reach; the trail of the search, and the tables that are kept beside
--- it; what a look at clauses tells; and what a conflict teaches.
+-- The solver, to be read in this order: what it answers; the trail of the search; what a look at clauses tells; what a conflict
+-- teaches; what each turn of the search makes of all this; and, for the code alone, the tables that are kept beside the trail
+-- and how far clauses reach.
 pub mod Answers
-pub mod Reach
 pub mod Trail
 pub mod Looks
 pub mod Learnt
+pub mod Turns
 pub mod Tables
+pub mod Reach

@@ -8,6 +8,7 @@
 #![tactic(auto)]
 
 mod answers;
+mod conflicts;
 mod entries;
 mod flags;
 mod guide;
@@ -16,6 +17,7 @@ mod looking;
 mod marks;
 mod reach;
 mod search;
+mod solving;
 mod states;
 mod trail;
 mod variables;
@@ -23,7 +25,5 @@ mod watched;
 mod watches;
 
 pub use answers::Answer;
-pub use search::solve;
-
-#[cfg(test)]
-mod tests;
+pub use feat_proof::NoMemory;
+pub use solving::solve;

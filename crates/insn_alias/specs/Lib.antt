@@ -1,1 +1,2 @@
+-- Read `Preference`: what the condition and the preference of an alias's node say of a word.
 pub mod Preference

@@ -4,8 +4,6 @@
 mod choice;
 mod labels;
 mod preference;
-#[cfg(test)]
-mod tests;
 
 pub use choice::preferred;
 pub use labels::{alias_label, find_alias};

@@ -13,8 +13,6 @@ mod member;
 mod node;
 mod shared;
 mod splitting;
-#[cfg(test)]
-mod tests;
 
 pub use candidates::Candidates;
 pub use decider::Decider;

@@ -14,10 +14,10 @@ ghost use Rattle.insn_tree.specs.Verdicts.{AreHeldBy};
 ghost use Rattle.insn_encode.specs.Held.{pair_by, answer_by, alias_node_at};
 
 use crate::fault::EncodeFault;
-use crate::path_encoding::encode_along;
+use crate::path_encoding::{encode_along, rest_along, shown_along};
 use crate::shown_fields::Shown;
 use ast_eval::Config;
-use insn_tree::{AliasId, Tree};
+use insn_tree::{AliasId, PathId, Tree};
 use mrs_names::NameId;
 
 /// The shown fields of an alias: the visible ones with a bit that no item on its path fixes, in their order.
@@ -28,7 +28,7 @@ pub fn alias_shown(tree: &Tree, a: AliasId) -> Shown<'_>
     ensures within { All (λ f. f.start + f.width ≤ 32) result }
     ensures held { (names : List (List ℕ)) → AreHeld names tree.now.nodes → All (λ f. f.name < length names) result }
 {
-    Shown::new(tree.alias_fields(a), tree.alias_layout(a))
+    shown_along(tree, PathId::Alias(a))
 }
 
 /// The rest of a word at an alias: the word's free unnamed bits against their defaults, and 0 elsewhere.
@@ -37,7 +37,7 @@ pub fn alias_rest_of(tree: &Tree, a: AliasId, w: u32) -> u32
     ensures { (names : List (List ℕ)) → AreNames names → AreHeld names tree.now.nodes
         → result ≡ path.rest_of (alias_path_at names tree.now a.0) w }
 {
-    tree.alias_layout(a).rest_of(w)
+    rest_along(tree, PathId::Alias(a), w)
 }
 
 /// The one word at which each shown field of an alias has the value that it is given in a pair, the rest is this one, and the
@@ -63,13 +63,5 @@ pub fn encode_alias(
     // the path of the alias is that to its node
     ensures path { (names : List (List ℕ)) → alias_path_at names tree.now a.0 ≡ path_to names tree.now.nodes (slice_index_or (aliases_of tree.now.nodes) a.0 0) }
 {
-    encode_along(
-        tree.arena(),
-        tree.alias_node(a),
-        tree.alias_fields(a),
-        &tree.alias_layout(a),
-        pairs,
-        rest,
-        config,
-    )
+    encode_along(tree, PathId::Alias(a), pairs, rest, config)
 }

@@ -13,10 +13,10 @@ ghost use Rattle.insn_tree.specs.Verdicts.{AreHeldBy};
 ghost use Rattle.insn_encode.specs.Held.{pair_by, answer_by, leaf_node_at};
 
 use crate::fault::EncodeFault;
-use crate::path_encoding::encode_along;
+use crate::path_encoding::{encode_along, rest_along, shown_along};
 use crate::shown_fields::Shown;
 use ast_eval::Config;
-use insn_tree::{LeafId, Tree};
+use insn_tree::{LeafId, PathId, Tree};
 use mrs_names::NameId;
 
 /// The shown fields of a leaf: the visible ones with a bit that no item on the path fixes, in their order.
@@ -27,7 +27,7 @@ pub fn shown(tree: &Tree, l: LeafId) -> Shown<'_>
     ensures within { All (λ f. f.start + f.width ≤ 32) result }
     ensures held { (names : List (List ℕ)) → AreHeld names tree.now.nodes → All (λ f. f.name < length names) result }
 {
-    Shown::new(tree.fields(l), tree.layout(l))
+    shown_along(tree, PathId::Leaf(l))
 }
 
 /// The rest of a word at a leaf: the word's free unnamed bits against their defaults, and 0 elsewhere.
@@ -36,7 +36,7 @@ pub fn rest_of(tree: &Tree, l: LeafId, w: u32) -> u32
     ensures { (names : List (List ℕ)) → AreNames names → AreHeld names tree.now.nodes
         → result ≡ path.rest_of (path_at names tree.now l.0) w }
 {
-    tree.layout(l).rest_of(w)
+    rest_along(tree, PathId::Leaf(l), w)
 }
 
 /// The one word at which each shown field of a leaf has the value that it is given in a pair, the rest is this one, and the
@@ -59,13 +59,5 @@ pub fn encode(
     ensures word { (names : List (List ℕ)) → AreHeldBy names tree.now.nodes config.now → All (λ pair. pair.0.0 < length names) pairs.now → (w : ℕ)
         → (result ≡ Ok w) ↔ Encodes (path_at names tree.now l.0) (configuration_of (text_of names) config.now) (map (pair_by names) pairs.now) rest w }
 {
-    encode_along(
-        tree.arena(),
-        tree.leaf_node(l),
-        tree.fields(l),
-        &tree.layout(l),
-        pairs,
-        rest,
-        config,
-    )
+    encode_along(tree, PathId::Leaf(l), pairs, rest, config)
 }

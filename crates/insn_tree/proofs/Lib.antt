@@ -11,6 +11,7 @@ mod PartLaws
 mod KeptLaws
 mod LeafKeptLaws
 mod AliasLaws
+mod PathIdLaws
 mod ChainLaws
 mod AliasKeptLaws
 pub mod GrownTrees

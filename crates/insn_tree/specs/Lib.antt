@@ -1,6 +1,17 @@
+-- What a tree keeps of an arena, and what it stands for by the texts of names.
+--
+-- Read first `Trees`: the nodes and labels that a clause sees, and the paths, aliases and labels that these are; then
+-- `PathIds`, `Verdicts` and `Grown`. The rest says what the tables of the code hold: what is gathered along a path (`Upward`,
+-- `Words`, `Visible`, `Layouts`, `Conditions`), how leaves, aliases and labels are numbered (`Ends`, `Leaves`, `Aliases`,
+-- `Chains`, `Labels`), and all of it together (`Kept`). `OwnTexts` is the verdict by the numbers of names alone.
+pub mod Trees
+pub mod PathIds
+pub mod Verdicts
+pub mod Grown
 pub mod Upward
 pub mod Words
 pub mod Visible
+pub mod Layouts
 pub mod Conditions
 pub mod Views
 pub mod Parts
@@ -9,10 +20,6 @@ pub mod Leaves
 pub mod Aliases
 pub mod Chains
 pub mod Labels
-pub mod Trees
-pub mod Codes
-pub mod Verdicts
 pub mod Kept
-pub mod Grown
-pub mod Layouts
 pub mod OwnTexts
+pub mod Codes

@@ -23,12 +23,11 @@ mod memory;
 mod namesakes;
 mod path_conditions;
 mod path_fields;
+mod path_id;
 mod path_layout;
 mod path_names;
 mod path_table;
 mod shared;
-#[cfg(test)]
-mod tests;
 mod tree;
 
 pub use field_range::FieldRange;
@@ -36,4 +35,5 @@ pub use grown::grown_names_serve;
 pub use label_ref::LabelRef;
 pub use leaf_id::{AliasId, LeafId};
 pub use memory::NoMemory;
+pub use path_id::PathId;
 pub use tree::Tree;

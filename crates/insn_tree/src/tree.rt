@@ -1,4 +1,4 @@
-//! What is asked of the tree of instructions, by the numbers of leaves and aliases.
+//! What is asked of the tree of instructions, by its paths, and by the numbers of leaves and aliases.
 
 use crate::alias_nodes::find_aliases;
 use crate::alias_table::{AliasTable, describe_aliases};
@@ -10,6 +10,8 @@ use crate::leaf_nodes::{LeafNodes, find_leaves};
 use crate::leaf_table::{LeafTable, describe_leaves};
 use crate::memory::NoMemory;
 use crate::path_conditions::conditions_hold;
+use crate::path_id::PathId;
+use crate::path_table::PathTable;
 use ast_eval::{Config, Truth};
 use bit_pattern::Pattern;
 use mrs_arena::{Arena, NodeId};
@@ -65,6 +67,8 @@ impl Tree {
     ghost use Rattle.spec_decode.specs.Bucket.{AreWithinWord};
     ghost use Rattle.insn_tree.specs.Aliases.{alias_from};
     ghost use Rattle.insn_tree.specs.Trees.{IsOf, tree_paths, tree_aliases, path_at, alias_at, alias_path_at, label_text, label_number, field_of, IsLeafAbove};
+    ghost use Rattle.insn_tree.specs.PathIds.{IsPathOf, number, ends, path_of, kindred, label_along};
+    ghost use Rattle.insn_tree.specs.Kept.{ArePaths};
 
     /// The tree of an arena, the texts of whose names are held by `names`.
     pub fn new(alloc: Global, arena: Arena, names: &Names) -> Result<Tree, NoMemory>
@@ -109,6 +113,62 @@ impl Tree {
         self.aliases.paths.nodes.len() as u32
     }
 
+    /// The node that a path ends at.
+    pub fn path_node(&self, p: PathId) -> NodeId
+        requires { IsPathOf self.now p }
+        ensures node { slice_get (ends self.now.nodes p) (number p) ≡ Some result.0 }
+        ensures within { result.0 < length self.now.nodes }
+        ensures path { (names : List (List ℕ)) → path_of names self.now p ≡ path_to names self.now.nodes result.0 }
+    {
+        self.paths(p).nodes[p.number() as usize]
+    }
+
+    /// The label of the leaf or the alias that a path ends at, among all leaves, or all aliases. `names` are those that the
+    /// tree was made with, or these with more behind them (`grown_names_serve`).
+    pub fn path_label<'a>(&'a self, p: PathId, names: &'a Names) -> LabelRef<'a>
+        requires path { IsPathOf self.now p }
+        requires names { IsOf names.now self.now }
+        ensures text { label_text result ≡ label_along names.now self.now p }
+        ensures number { result.number ≡ label_number (kindred names.now self.now p) (number p) }
+    {
+        let kept = self.paths(p);
+        let k = p.number();
+        label_of(names, kept.names[k as usize], kept.shared[k as usize], k)
+    }
+
+    /// The fields that are visible at the end of a path, in path order from the root and item order, each name once at its
+    /// deepest item.
+    pub fn path_fields(&self, p: PathId) -> &[FieldRange]
+        requires { IsPathOf self.now p }
+        ensures visible { (names : List (List ℕ)) → AreNames names → AreHeld names self.now.nodes
+            → map (field_of names) result.now ≡ fields (path_of names self.now p) }
+        ensures within { All (λ f. f.range.start + f.range.width ≤ 32) result.now }
+        ensures held { (names : List (List ℕ)) → AreHeld names self.now.nodes → All (λ f. f.name.0 < length names) result.now }
+    {
+        self.paths(p).fields.at(p.number() as usize)
+    }
+
+    /// What a path says of the bits of words: which are fixed, each to the value of the first item that fixes it, which are
+    /// free and unnamed, and the defaults of these.
+    pub fn path_layout(&self, p: PathId) -> WordLayout
+        requires { IsPathOf self.now p }
+        ensures numbers { (names : List (List ℕ)) → AreNames names → AreHeld names self.now.nodes
+            → numbers_of result ≡ numbers (layout (path_of names self.now p)) }
+        ensures within { (names : List (List ℕ)) → All IsWithinWord (path_items (path_of names self.now p)) }
+    {
+        self.paths(p).layouts[p.number() as usize]
+    }
+
+    /// What is kept of the paths of a kind.
+    fn paths(&self, p: PathId) -> &PathTable
+        ensures { ArePaths self.now.nodes (ends self.now.nodes p) result.now }
+    {
+        match p {
+            PathId::Leaf(_) => &self.leaves.paths,
+            PathId::Alias(_) => &self.aliases.paths,
+        }
+    }
+
     /// The node of a leaf, at which its path ends.
     pub fn leaf_node(&self, l: LeafId) -> NodeId
         requires { l.0 < length (leaves_of self.now.nodes) }
@@ -116,7 +176,7 @@ impl Tree {
         ensures within { result.0 < length self.now.nodes }
         ensures path { (names : List (List ℕ)) → path_at names self.now l.0 ≡ path_to names self.now.nodes result.0 }
     {
-        self.leaves.paths.nodes[l.0 as usize]
+        self.path_node(PathId::Leaf(l))
     }
 
     /// The node of an alias, at which its path ends.
@@ -127,7 +187,7 @@ impl Tree {
         ensures path { (names : List (List ℕ)) → alias_path_at names self.now a.0 ≡ path_to names self.now.nodes result.0 }
         ensures own { (names : List (List ℕ)) → (alias_at names self.now a.0).own ≡ own_at names self.now.nodes result.0 }
     {
-        self.aliases.paths.nodes[a.0 as usize]
+        self.path_node(PathId::Alias(a))
     }
 
     /// The leaf of an alias: the node above it, where that is a leaf.
@@ -145,13 +205,7 @@ impl Tree {
         ensures text { label_text result ≡ label (tree_paths names.now self.now) l.0 }
         ensures number { result.number ≡ label_number (tree_paths names.now self.now) l.0 }
     {
-        let leaf = l.0 as usize;
-        label_of(
-            names,
-            self.leaves.paths.names[leaf],
-            self.leaves.paths.shared[leaf],
-            l.0,
-        )
+        self.path_label(PathId::Leaf(l), names)
     }
 
     /// The leaf with that label; `None` exactly where no leaf has it. `names` are as for `label`.
@@ -192,7 +246,7 @@ impl Tree {
         ensures within { All (λ f. f.range.start + f.range.width ≤ 32) result.now }
         ensures held { (names : List (List ℕ)) → AreHeld names self.now.nodes → All (λ f. f.name.0 < length names) result.now }
     {
-        self.leaves.paths.fields.at(l.0 as usize)
+        self.path_fields(PathId::Leaf(l))
     }
 
     /// The verdict of a leaf's path on the word `w`: `No` where an item on it does not hold or a condition on it is `No`,
@@ -254,7 +308,7 @@ impl Tree {
             → numbers_of result ≡ numbers (layout (path_at names self.now l.0)) }
         ensures within { (names : List (List ℕ)) → All IsWithinWord (path_items (path_at names self.now l.0)) }
     {
-        self.leaves.paths.layouts[l.0 as usize]
+        self.path_layout(PathId::Leaf(l))
     }
 
     /// The free unnamed bits of the path: those that no item fixes and no visible field has.
@@ -312,13 +366,7 @@ impl Tree {
         ensures text { label_text result ≡ alias_label (tree_aliases names.now self.now) a.0 }
         ensures number { result.number ≡ label_number (alias_paths (tree_aliases names.now self.now)) a.0 }
     {
-        let alias = a.0 as usize;
-        label_of(
-            names,
-            self.aliases.paths.names[alias],
-            self.aliases.paths.shared[alias],
-            a.0,
-        )
+        self.path_label(PathId::Alias(a), names)
     }
 
     /// The alias with that label; `None` exactly where no alias has it. `names` are as for `label`.
@@ -350,7 +398,7 @@ impl Tree {
         ensures within { All (λ f. f.range.start + f.range.width ≤ 32) result.now }
         ensures held { (names : List (List ℕ)) → AreHeld names self.now.nodes → All (λ f. f.name.0 < length names) result.now }
     {
-        self.aliases.paths.fields.at(a.0 as usize)
+        self.path_fields(PathId::Alias(a))
     }
 
     /// What the path of an alias says of the bits of words: as `layout` of a leaf.
@@ -360,7 +408,7 @@ impl Tree {
             → numbers_of result ≡ numbers (layout (alias_path_at names self.now a.0)) }
         ensures within { (names : List (List ℕ)) → All IsWithinWord (path_items (alias_path_at names self.now a.0)) }
     {
-        self.aliases.paths.layouts[a.0 as usize]
+        self.path_layout(PathId::Alias(a))
     }
 
     /// What the conditions along a leaf's path say of the word `w`.

@@ -5,18 +5,18 @@ use Rattle.std.proofs.lemmas.List.{get_or-map, length-map}
 use Rattle.spec_instructions.specs.Aliases.{alias_path, alias_paths}
 use Rattle.spec_decode.specs.Preferred.{preferred}
 use Rattle.spec_lines.specs.Way as spec
-use Rattle.spec_lines.specs.Way.{way_path}
-use Rattle.mrs_arena.specs.Placed.{text_of, path_to, leaves_of, aliases_of}
+use Rattle.spec_lines.specs.Way.{way_path, way_label}
+use Rattle.mrs_arena.specs.Flat.{FlatNode}
+use Rattle.mrs_arena.specs.Placed.{aliases_of}
 use Rattle.ast_eval.specs.Choices.{Choices}
-use Rattle.insn_tree.specs.declared.leaf_id.AliasId.{AliasId}
-use Rattle.insn_tree.specs.declared.leaf_id.LeafId.{LeafId}
+use Rattle.insn_tree.specs.declared.path_id.PathId.{PathId}
+use Rattle.insn_tree.specs.declared.path_id.PathId.TheVariants as path
+use Rattle.insn_tree.specs.PathIds.{IsPathOf, path_of, label_along, end_of}
 use Rattle.insn_tree.specs.Aliases.{alias_by, no_alias}
-use Rattle.insn_tree.specs.Trees.{TreeParts, tree_paths, tree_aliases, path_at, alias_path_at}
+use Rattle.insn_tree.specs.Trees.{TreeParts, tree_aliases, alias_path_at}
 use Rattle.insn_tree.specs.Verdicts.{AreHeldBy}
 use Rattle.insn_decode.specs.Deciders.{DeciderParts}
 use Rattle.list_words.specs.Machines.{machine_of, AreOneRelease}
-use Rattle.list_words.specs.declared.way.Way.{Way}
-use Rattle.list_words.specs.declared.way.Way.TheVariants as way
 use Rattle.list_words.specs.Ways.{way_by, IsWayOf, way_node, path_along}
 
 -- the path of each machine of a tree is the tree's
@@ -28,29 +28,26 @@ machine_path names tree config (spec.ByAlias a) = refl
 pub path_to_alias : (names : List (List ℕ)) (tree : TreeParts) (a : ℕ) → a < length (aliases_of tree.nodes) → path_along names tree (spec.ByAlias a) ≡ alias_path_at names tree a
 path_to_alias names tree a within = get_or-map alias_path (tree_aliases names tree) a no_alias [] (subst (λ n. a < n) (sym (length-map (aliases_of tree.nodes) (alias_by names tree.nodes))) within)
 
--- that of a leaf is that to its node
-pub path_to_leaf : (names : List (List ℕ)) (tree : TreeParts) (k : ℕ) → k < length (leaves_of tree.nodes) → path_along names tree (spec.ByLeaf k) ≡ path_to names tree.nodes (way_node tree.nodes (spec.ByLeaf k))
-path_to_leaf names tree k within = get_or-map (path_to names tree.nodes) (leaves_of tree.nodes) k 0 [] within
-
 -- names of one release are held
 pub held_by : (names : List (List ℕ)) (tree : TreeParts) (decider : DeciderParts) (config : Choices) → AreOneRelease names tree decider config → AreHeldBy names tree.nodes config
 held_by names tree decider config release = record { distinct = release.names_are.names_are; nodes_are = release.names_are.held; parameters = release.parameters }
 
--- ---- the same of a leaf or an alias of the code
+-- ---- the same of a path of the code
 
-module _ (tree : TreeParts) (self : Way) (of : IsWayOf tree (way_by self)) where
-  pub leaf_within : (l : LeafId) → self ≡ way.Leaf l → l.0 < length (leaves_of tree.nodes)
-  leaf_within l is = subst (λ (w : Way). IsWayOf tree (way_by w)) is of
-
-  pub alias_within : (a : AliasId) → self ≡ way.Alias a → a.0 < length (aliases_of tree.nodes)
-  alias_within a is = subst (λ (w : Way). IsWayOf tree (way_by w)) is of
+module _ (tree : TreeParts) where
+  pub is_path : (p : PathId) → IsWayOf tree (way_by p) → IsPathOf tree p
+  is_path (path.Leaf leaf) of = of
+  is_path (path.Alias alias) of = of
 
   module _ (names : List (List ℕ)) where
-    pub along_leaf : (l : LeafId) → self ≡ way.Leaf l → path_along names tree (way_by self) ≡ path_at names tree l.0
-    along_leaf l is = ap (λ (w : Way). path_along names tree (way_by w)) is
+    pub along : (p : PathId) → IsWayOf tree (way_by p) → path_along names tree (way_by p) ≡ path_of names tree p
+    along (path.Leaf leaf) of = refl
+    along (path.Alias alias) of = path_to_alias names tree alias.0 of
 
-    pub along_alias : (a : AliasId) → self ≡ way.Alias a → path_along names tree (way_by self) ≡ alias_path_at names tree a.0
-    along_alias a is = ap (λ (w : Way). path_along names tree (way_by w)) is ∙ path_to_alias names tree a.0 (alias_within a is)
+    pub labelled : (config : Choices) (p : PathId) → label_along names tree p ≡ way_label (machine_of names tree config) (way_by p)
+    labelled config (path.Leaf leaf) = refl
+    labelled config (path.Alias alias) = refl
 
-    pub to_leaf : (l : LeafId) → self ≡ way.Leaf l → path_along names tree (way_by self) ≡ path_to names tree.nodes (way_node tree.nodes (way_by self))
-    to_leaf l is = subst (λ (w : Way). path_along names tree (way_by w) ≡ path_to names tree.nodes (way_node tree.nodes (way_by w))) (sym is) (path_to_leaf names tree l.0 (leaf_within l is))
+pub way-end : (nodes : List FlatNode) (p : PathId) → end_of nodes p ≡ way_node nodes (way_by p)
+way-end nodes (path.Leaf leaf) = refl
+way-end nodes (path.Alias alias) = refl

@@ -6,12 +6,12 @@ use Rattle.spec_lines.specs.Way as spec
 use Rattle.mrs_arena.specs.Flat.{FlatNode}
 use Rattle.mrs_arena.specs.Placed.{leaves_of, aliases_of}
 use Rattle.insn_tree.specs.Trees.{TreeParts, tree_paths, tree_aliases}
-use Rattle.list_words.specs.declared.way.Way.{Way}
-use Rattle.list_words.specs.declared.way.Way.TheVariants as way
+use Rattle.insn_tree.specs.declared.path_id.PathId.{PathId}
+use Rattle.insn_tree.specs.declared.path_id.PathId.TheVariants as path
 
-abbrev pub way_by : Way → spec.Way
-way_by (way.Leaf leaf) = spec.ByLeaf leaf.0
-way_by (way.Alias alias) = spec.ByAlias alias.0
+abbrev pub way_by : PathId → spec.Way
+way_by (path.Leaf leaf) = spec.ByLeaf leaf.0
+way_by (path.Alias alias) = spec.ByAlias alias.0
 
 -- it is one of the tree's
 abbrev pub IsWayOf : TreeParts → spec.Way → Type 0

@@ -6,9 +6,9 @@ ghost use Rattle.list_words.specs.Ways.{way_by, IsWayOf};
 
 use crate::hex::push_hex;
 use crate::lister::Lister;
-use crate::way::Way;
 use crate::written::push_written;
 use insn_decode::Found;
+use insn_tree::PathId;
 use std::alloc::AllocError;
 
 /// Appends a word as a number.
@@ -20,16 +20,21 @@ fn push_word(out: &mut Vec<u8>, word: u32) -> Result<(), AllocError>
 }
 
 /// Appends a leaf or an alias, with the fields and the rest of a word.
-fn push_way(out: &mut Vec<u8>, lister: &Lister<'_>, way: Way, word: u32) -> Result<(), AllocError>
+fn push_path(
+    out: &mut Vec<u8>,
+    lister: &Lister<'_>,
+    path: PathId,
+    word: u32,
+) -> Result<(), AllocError>
     requires release { IsOneRelease lister.now }
-    requires way { IsWayOf lister.now.tree.now (way_by way) }
-    ensures { OnOk result (out.new.items ≡ out.old.items ++ bare_way (machine lister.now) word (way_by way)) }
+    requires way { IsWayOf lister.now.tree.now (way_by path) }
+    ensures { OnOk result (out.new.items ≡ out.old.items ++ bare_way (machine lister.now) word (way_by path)) }
 {
-    match way {
-        Way::Leaf(_) => out.extend_from_slice(b"leaf ")?,
-        Way::Alias(_) => out.extend_from_slice(b"alias ")?,
+    match path {
+        PathId::Leaf(_) => out.extend_from_slice(b"leaf ")?,
+        PathId::Alias(_) => out.extend_from_slice(b"alias ")?,
     }
-    push_written(out, lister, way, word)
+    push_written(out, lister, path, word)
 }
 
 /// Appends a lone leaf, or the alias that is preferred at it, with its fields and its rest; or else the word.
@@ -38,7 +43,7 @@ fn push_bare(out: &mut Vec<u8>, lister: &Lister<'_>, word: u32) -> Result<(), Al
     ensures { OnOk result (out.new.items ≡ out.old.items ++ bare_text (machine lister.now) word) }
 {
     match lister.decide(word) {
-        Found::Lone(leaf, _) => push_way(out, lister, Way::of(lister, leaf, word), word),
+        Found::Lone(leaf, _) => push_path(out, lister, lister.path_of(leaf, word), word),
         Found::Nothing | Found::Several => push_word(out, word),
     }
 }

@@ -26,11 +26,8 @@ mod path_names;
 mod reading;
 mod reasons;
 mod streams;
-#[cfg(test)]
-mod tests;
 mod token;
 mod tokens;
-mod way;
 mod written;
 
 pub use bare::push_bare_line;

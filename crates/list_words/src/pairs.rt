@@ -12,9 +12,8 @@ use crate::decimal::push_decimal;
 use crate::hex::push_hex;
 use crate::lister::Lister;
 use crate::name::name_bytes;
-use crate::way::Way;
 use bit_pattern::Range;
-use insn_tree::FieldRange;
+use insn_tree::{FieldRange, PathId};
 use mrs_names::Names;
 use std::alloc::AllocError;
 
@@ -40,12 +39,17 @@ fn push_pair(out: &mut Vec<u8>, names: &Names, field: FieldRange, w: u32) -> Res
 }
 
 /// Appends the shown fields of a word at a leaf or an alias.
-fn push_fields(out: &mut Vec<u8>, lister: &Lister<'_>, way: Way, w: u32) -> Result<(), AllocError>
+fn push_fields(
+    out: &mut Vec<u8>,
+    lister: &Lister<'_>,
+    path: PathId,
+    w: u32,
+) -> Result<(), AllocError>
     requires release { IsOneRelease lister.now }
-    requires way { IsWayOf lister.now.tree.now (way_by way) }
-    ensures { OnOk result (out.new.items ≡ out.old.items ++ flat_map pair_text (own_pairs (way_path (machine lister.now) (way_by way)) w)) }
+    requires way { IsWayOf lister.now.tree.now (way_by path) }
+    ensures { OnOk result (out.new.items ≡ out.old.items ++ flat_map pair_text (own_pairs (way_path (machine lister.now) (way_by path)) w)) }
 {
-    for field in way.shown(lister) {
+    for field in lister.shown(path) {
         push_pair(out, lister.names, field, w)?;
     }
     Ok(())
@@ -66,13 +70,13 @@ fn push_rest(out: &mut Vec<u8>, rest: u32) -> Result<(), AllocError>
 pub(crate) fn push_pairs(
     out: &mut Vec<u8>,
     lister: &Lister<'_>,
-    way: Way,
+    path: PathId,
     w: u32,
 ) -> Result<(), AllocError>
     requires release { IsOneRelease lister.now }
-    requires way { IsWayOf lister.now.tree.now (way_by way) }
-    ensures { OnOk result (out.new.items ≡ out.old.items ++ pairs_text (way_path (machine lister.now) (way_by way)) w) }
+    requires way { IsWayOf lister.now.tree.now (way_by path) }
+    ensures { OnOk result (out.new.items ≡ out.old.items ++ pairs_text (way_path (machine lister.now) (way_by path)) w) }
 {
-    push_fields(out, lister, way, w)?;
-    push_rest(out, way.rest_of(lister, w))
+    push_fields(out, lister, path, w)?;
+    push_rest(out, lister.rest_of(path, w))
 }

@@ -14,7 +14,7 @@ use crate::line_fault::{LineFault, LineWhy};
 use crate::lister::Lister;
 use crate::pair::NUMBER_BOUND;
 use crate::tokens::{MOST_BYTES, Tokens};
-use crate::way::Way;
+use insn_tree::PathId;
 use number_text::number_below;
 
 /// A line that is refused at a place, as no word.
@@ -79,7 +79,7 @@ fn read_leaf(l: &Lister<'_>, end: u32, mut tokens: Tokens<'_>) -> Result<u32, Li
     let Some(leaf) = l.tree.find_label_bytes(l.names, label.text) else {
         return refused(label.at, LineWhy::Label);
     };
-    read_fields(l, label.at, Way::Leaf(leaf), tokens)
+    read_fields(l, label.at, PathId::Leaf(leaf), tokens)
 }
 
 /// What the tokens behind `alias` say in a line that ends at `end`.
@@ -93,18 +93,18 @@ fn read_alias(l: &Lister<'_>, end: u32, mut tokens: Tokens<'_>) -> Result<u32, L
     let Some(alias) = l.tree.find_alias_bytes(l.names, label.text) else {
         return refused(label.at, LineWhy::Label);
     };
-    read_fields(l, label.at, Way::Alias(alias), tokens)
+    read_fields(l, label.at, PathId::Alias(alias), tokens)
 }
 
 /// What the tokens behind the label of a leaf or an alias say, which stands at `at`.
-fn read_fields(l: &Lister<'_>, at: u32, way: Way, tokens: Tokens<'_>) -> Result<u32, LineFault>
+fn read_fields(l: &Lister<'_>, at: u32, path: PathId, tokens: Tokens<'_>) -> Result<u32, LineFault>
     requires release { IsOneRelease l.now }
-    requires way { IsWayOf l.now.tree.now (way_by way) }
-    ensures { Answers l.now.names.now l.now.tree.now result (spec.of_given (machine l.now) at (way_by way) (given_behind nothing tokens.entry)) }
+    requires way { IsWayOf l.now.tree.now (way_by path) }
+    ensures { Answers l.now.names.now l.now.tree.now result (spec.of_given (machine l.now) at (way_by path) (given_behind nothing tokens.entry)) }
 {
     let mut given = Given::nothing();
-    read_given(l.names, way.fields(l), tokens, &mut given)?;
-    match encode_given(l, way, &given) {
+    read_given(l.names, l.fields(path), tokens, &mut given)?;
+    match encode_given(l, path, &given) {
         Ok(w) => Ok(w),
         Err(fault) => refused(at, LineWhy::Encode(fault)),
     }

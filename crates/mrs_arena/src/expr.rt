@@ -14,7 +14,7 @@ pub struct ExprList {
 }
 
 /// An expression; its parts are those of these numbers.
-#[derive(Clone, Copy, PartialEq, Eq, Debug)]
+#[derive(Clone, Copy)]
 pub enum Expr {
     Truth(bool),
     Integer(i64),

@@ -7,7 +7,7 @@ use bit_pattern::Pattern;
 use mrs_names::NameId;
 
 /// An expression of an arena, with its lists as slices of the arena. The number of each part is smaller than its own.
-#[derive(Clone, Copy, PartialEq, Eq, Debug)]
+#[derive(Clone, Copy)]
 pub enum ExprRef<'a> {
     Truth(bool),
     Integer(i64),

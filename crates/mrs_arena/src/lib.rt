@@ -20,8 +20,6 @@ mod op;
 mod path;
 mod shared;
 mod taken;
-#[cfg(test)]
-mod tests;
 
 pub use arena::Arena;
 pub use builder::ArenaBuilder;

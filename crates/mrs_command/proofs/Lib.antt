@@ -1,3 +1,4 @@
 pub mod Few
 pub mod Keys
 pub mod Places
+pub mod Said

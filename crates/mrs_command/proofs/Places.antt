@@ -5,7 +5,7 @@ use Rattle.std.proofs.lemmas.List.{take-map, get_or-map, length-map, length-take
 use Rattle.std.proofs.lemmas.List.Folds.{list_all-map, list_all_more}
 use Rattle.spec_command.specs.Setting.{setting_in}
 use Rattle.std.proofs.lemmas.List.Sums.{count_by-le-length, sum_by-cons, sum_by_more}
-use Rattle.spec_command.specs.Request.{is_good, is_bad_at, is_pin}
+use Rattle.spec_command.specs.Words.{is_good, is_bad_at, is_pin}
 use Rattle.mrs_command.specs.Words.{is_setting}
 
 -- the places that are left begin with the next one

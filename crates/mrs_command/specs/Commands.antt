@@ -1,6 +1,7 @@
--- The commands and the requests of the code as those of the definition.
-use Rattle.std.specs.Prelude.{◌≤◌, ◌^◌, ⊤, length, option_map}
+-- The verbs, the commands and the requests of the code as those of the definition.
+use Rattle.std.specs.Prelude.{◌≡◌, ◌≤◌, ◌^◌, ℕ, List, ⊤, length, option_map, Ok}
 use Rattle.spec_command.specs.Commands as spec
+use Rattle.spec_command.specs.Words.{Command, command}
 use Rattle.mrs_command.specs.declared.commands.Verb.{Verb}
 use Rattle.mrs_command.specs.declared.commands.Verb.TheVariants as verb
 use Rattle.mrs_command.specs.declared.commands.Release.{Release}
@@ -9,13 +10,21 @@ use Rattle.mrs_command.specs.declared.commands.Checks.{Checks}
 use Rattle.mrs_command.specs.declared.commands.Request.{Request}
 use Rattle.mrs_command.specs.declared.commands.Request.TheVariants as code
 
-abbrev pub command_of : Verb → spec.Command
-command_of verb.List = spec.list_command
-command_of verb.Asm = spec.asm_command
-command_of verb.Leaf = spec.leaf_command
-command_of verb.Config = spec.config_command
-command_of verb.Proof = spec.proof_command
-command_of verb.Check = spec.check_command
+abbrev pub verb_of : Verb → spec.Verb
+verb_of verb.List = spec.list_verb
+verb_of verb.Asm = spec.asm_verb
+verb_of verb.Leaf = spec.leaf_verb
+verb_of verb.Config = spec.config_verb
+verb_of verb.Proof = spec.proof_verb
+verb_of verb.Check = spec.check_verb
+
+-- a verb with the pairs behind it
+abbrev pub command_of : Verb × List (List ℕ × List ℕ) → Command
+command_of said = record { verb = verb_of said.0; pairs = said.1 }
+
+-- it is the command of some words
+abbrev pub IsSaid : Verb × List (List ℕ × List ℕ) → Type 0
+IsSaid said = (words : List (List ℕ)) × (command words ≡ Ok (command_of said))
 
 abbrev pub release_of : Release → spec.Release
 release_of release = record { insns = release.insns.now; isa = release.isa.now }

@@ -1,23 +1,23 @@
-//! The commands: the word that says each, its keys, and what it asks for.
+//! The verbs of commands: the word that says each, its keys, and what it asks for.
 ghost use Rattle.std.specs.Prelude.{◌≡◌, ◌≤◌, ◌^◌, map, option_map, unwrap_or, Some, IfSome, codes};
 ghost use Rattle.spec_command.specs.Commands as spec;
 ghost use Rattle.spec_command.specs.Setting.{value_in};
-ghost use Rattle.spec_command.specs.Request.{command_named};
-ghost use Rattle.mrs_command.specs.Commands.{command_of, release_of, configured_of, asked_of, IsLimited};
+ghost use Rattle.spec_command.specs.Words.{verb_named};
+ghost use Rattle.mrs_command.specs.Commands.{verb_of, release_of, configured_of, asked_of, IsLimited};
 
+use crate::pairs::Pairs;
 use crate::pins::Pins;
-use crate::settings::Settings;
 use crate::values::{USUAL_LIMIT, bare_by, limit_by};
 
 /// A set of instructions: the name of its document, and its own.
-#[derive(Clone, Copy, PartialEq, Eq, Debug)]
+#[derive(Clone, Copy)]
 pub struct Release<'a> {
     pub insns: &'a str,
     pub isa: &'a str,
 }
 
 /// Which features there are: the name of a Features document, where one is named, and the pins, of which there are at most 4,096.
-#[derive(Debug, Drop)]
+#[derive(Drop)]
 pub struct Configured<'a> {
     pub features: Option<&'a str>,
     pub pins: Pins<'a>,
@@ -25,7 +25,7 @@ pub struct Configured<'a> {
 
 /// The documents that are checked, by their names, at least one of which is there: an Instructions document, of which the set
 /// `isa` is read, and a Features document.
-#[derive(Clone, Copy, PartialEq, Eq, Debug)]
+#[derive(Clone, Copy)]
 pub struct Checks<'a> {
     pub insns: Option<&'a str>,
     pub isa: &'a str,
@@ -33,7 +33,7 @@ pub struct Checks<'a> {
 }
 
 /// What the words of a command line ask for: a command, and what its keys say.
-#[derive(Debug, Drop)]
+#[derive(Drop)]
 pub enum Request<'a> {
     /// `list` lists the words of a stream, of which it takes at most `max` bytes, up to 2^40, in full lines or bare ones, under the
     /// configuration of features.
@@ -67,9 +67,9 @@ pub enum Request<'a> {
     Check(Checks<'a>),
 }
 
-/// A command.
+/// The verb of a command.
 #[derive(Clone, Copy, PartialEq, Eq, Debug)]
-pub(crate) enum Verb {
+pub enum Verb {
     List,
     Asm,
     Leaf,
@@ -79,9 +79,9 @@ pub(crate) enum Verb {
 }
 
 impl Verb {
-    /// The command that a word says, if it says one.
+    /// The verb that a word says, if it says one.
     pub(crate) fn named(word: &str) -> Option<Verb>
-        ensures { option_map command_of result ≡ command_named word.now }
+        ensures { option_map verb_of result ≡ verb_named word.now }
     {
         match word {
             "list" => Some(Verb::List),
@@ -94,9 +94,9 @@ impl Verb {
         }
     }
 
-    /// The keys of the command.
+    /// The keys of the verb.
     fn keys(self) -> &'static [&'static str]
-        ensures { map (λ key. key.now) result.now ≡ (command_of self).asks.keys }
+        ensures { map (λ key. key.now) result.now ≡ (verb_of self).asks.keys }
     {
         match self {
             Verb::List => &["insns", "isa", "form", "max", "features", "on", "off"],
@@ -108,91 +108,91 @@ impl Verb {
         }
     }
 
-    /// Whether the command has this key.
+    /// Whether the verb has this key.
     pub(crate) fn has_key(self, key: &str) -> bool
-        ensures { result ≡ spec.is_one_of (command_of self).asks.keys key.now }
+        ensures { result ≡ spec.is_one_of (verb_of self).asks.keys key.now }
     {
         is_among(self.keys(), key)
     }
 
-    /// What the command asks for with these settings; `None` exactly where a key that it needs is missing.
-    pub(crate) fn request<'a>(self, settings: &Settings<'a>) -> Option<Request<'a>>
-        ensures asked { option_map asked_of result ≡ (command_of self).asks.value settings.now }
+    /// What the verb asks for with these pairs; `None` exactly where a key that it needs is missing.
+    pub(crate) fn request<'a>(self, pairs: &Pairs<'a>) -> Option<Request<'a>>
+        ensures asked { option_map asked_of result ≡ (verb_of self).asks.value pairs.now }
         ensures limited { IfSome result IsLimited }
     {
         match self {
-            Verb::List => list_request(settings),
-            Verb::Asm => asm_request(settings),
-            Verb::Leaf => leaf_request(settings),
-            Verb::Config => config_request(settings),
-            Verb::Proof => proof_request(settings),
-            Verb::Check => check_request(settings),
+            Verb::List => list_request(pairs),
+            Verb::Asm => asm_request(pairs),
+            Verb::Leaf => leaf_request(pairs),
+            Verb::Config => config_request(pairs),
+            Verb::Proof => proof_request(pairs),
+            Verb::Check => check_request(pairs),
         }
     }
 }
 
 /// What `list` asks for; `None` exactly where no document is named.
-fn list_request<'a>(settings: &Settings<'a>) -> Option<Request<'a>>
-    ensures asked { option_map asked_of result ≡ spec.list_command.asks.value settings.now }
+fn list_request<'a>(pairs: &Pairs<'a>) -> Option<Request<'a>>
+    ensures asked { option_map asked_of result ≡ spec.list_verb.asks.value pairs.now }
     ensures limited { IfSome result IsLimited }
 {
     Some(Request::List {
-        release: release_in(settings)?,
-        bare: is_bare(settings),
-        max: limit_in(settings),
-        configured: configured_in(settings),
+        release: release_in(pairs)?,
+        bare: is_bare(pairs),
+        max: limit_in(pairs),
+        configured: configured_in(pairs),
     })
 }
 
 /// What `asm` asks for; `None` exactly where no document is named.
-fn asm_request<'a>(settings: &Settings<'a>) -> Option<Request<'a>>
-    ensures asked { option_map asked_of result ≡ spec.asm_command.asks.value settings.now }
+fn asm_request<'a>(pairs: &Pairs<'a>) -> Option<Request<'a>>
+    ensures asked { option_map asked_of result ≡ spec.asm_verb.asks.value pairs.now }
     ensures limited { IfSome result IsLimited }
 {
     Some(Request::Asm {
-        release: release_in(settings)?,
-        max: limit_in(settings),
-        configured: configured_in(settings),
+        release: release_in(pairs)?,
+        max: limit_in(pairs),
+        configured: configured_in(pairs),
     })
 }
 
 /// What `leaf` asks for; `None` exactly where no document or no label is named.
-fn leaf_request<'a>(settings: &Settings<'a>) -> Option<Request<'a>>
-    ensures asked { option_map asked_of result ≡ spec.leaf_command.asks.value settings.now }
+fn leaf_request<'a>(pairs: &Pairs<'a>) -> Option<Request<'a>>
+    ensures asked { option_map asked_of result ≡ spec.leaf_verb.asks.value pairs.now }
     ensures limited { IfSome result IsLimited }
 {
-    let release = release_in(settings)?;
-    let label = settings.value("label")?;
+    let release = release_in(pairs)?;
+    let label = pairs.value("label")?;
     Some(Request::Leaf { release, label })
 }
 
 /// What `config` asks for; `None` exactly where no document is named.
-fn config_request<'a>(settings: &Settings<'a>) -> Option<Request<'a>>
-    ensures asked { option_map asked_of result ≡ spec.config_command.asks.value settings.now }
+fn config_request<'a>(pairs: &Pairs<'a>) -> Option<Request<'a>>
+    ensures asked { option_map asked_of result ≡ spec.config_verb.asks.value pairs.now }
     ensures limited { IfSome result IsLimited }
 {
-    let features = settings.value("features")?;
-    let pins = settings.pins();
+    let features = pairs.value("features")?;
+    let pins = pairs.pins();
     Some(Request::Config { features, pins })
 }
 
 /// What `proof` asks for; `None` exactly where no log is named.
-fn proof_request<'a>(settings: &Settings<'a>) -> Option<Request<'a>>
-    ensures asked { option_map asked_of result ≡ spec.proof_command.asks.value settings.now }
+fn proof_request<'a>(pairs: &Pairs<'a>) -> Option<Request<'a>>
+    ensures asked { option_map asked_of result ≡ spec.proof_verb.asks.value pairs.now }
     ensures limited { IfSome result IsLimited }
 {
-    let log = settings.value("log")?;
+    let log = pairs.value("log")?;
     Some(Request::Proof { log })
 }
 
 /// What `check` asks for; `None` exactly where neither document is named.
-fn check_request<'a>(settings: &Settings<'a>) -> Option<Request<'a>>
-    ensures asked { option_map asked_of result ≡ spec.check_command.asks.value settings.now }
+fn check_request<'a>(pairs: &Pairs<'a>) -> Option<Request<'a>>
+    ensures asked { option_map asked_of result ≡ spec.check_verb.asks.value pairs.now }
     ensures limited { IfSome result IsLimited }
 {
-    let insns = settings.value("insns");
-    let isa = set_in(settings);
-    let features = settings.value("features");
+    let insns = pairs.value("insns");
+    let isa = set_in(pairs);
+    let features = pairs.value("features");
     if insns.is_none() && features.is_none() {
         return None;
     }
@@ -203,51 +203,51 @@ fn check_request<'a>(settings: &Settings<'a>) -> Option<Request<'a>>
     }))
 }
 
-/// The set that settings ask for; `None` exactly where they name no document.
-fn release_in<'a>(settings: &Settings<'a>) -> Option<Release<'a>>
-    ensures { option_map release_of result ≡ spec.release.value settings.now }
+/// The set that pairs ask for; `None` exactly where they name no document.
+fn release_in<'a>(pairs: &Pairs<'a>) -> Option<Release<'a>>
+    ensures { option_map release_of result ≡ spec.release.value pairs.now }
 {
-    let insns = settings.value("insns")?;
-    let isa = set_in(settings);
+    let insns = pairs.value("insns")?;
+    let isa = set_in(pairs);
     Some(Release { insns, isa })
 }
 
-/// The name of the set that settings ask for, `A64` where they say none.
-fn set_in<'a>(settings: &Settings<'a>) -> &'a str
-    ensures { result.now ≡ unwrap_or (value_in (codes "isa") settings.now) (codes "A64") }
+/// The name of the set that pairs ask for, `A64` where they say none.
+fn set_in<'a>(pairs: &Pairs<'a>) -> &'a str
+    ensures { result.now ≡ unwrap_or (value_in (codes "isa") pairs.now) (codes "A64") }
 {
-    match settings.value("isa") {
+    match pairs.value("isa") {
         Some(isa) => isa,
         None => "A64",
     }
 }
 
-/// What settings say of features.
-fn configured_in<'a>(settings: &Settings<'a>) -> Configured<'a>
-    ensures { Some (configured_of result) ≡ spec.configured.value settings.now }
+/// What pairs say of features.
+fn configured_in<'a>(pairs: &Pairs<'a>) -> Configured<'a>
+    ensures { Some (configured_of result) ≡ spec.configured.value pairs.now }
 {
     Configured {
-        features: settings.value("features"),
-        pins: settings.pins(),
+        features: pairs.value("features"),
+        pins: pairs.pins(),
     }
 }
 
-/// Whether settings ask for bare lines.
-fn is_bare(settings: &Settings<'_>) -> bool
-    ensures { Some result ≡ spec.form.value settings.now }
+/// Whether pairs ask for bare lines.
+fn is_bare(pairs: &Pairs<'_>) -> bool
+    ensures { Some result ≡ spec.form.value pairs.now }
 {
-    match settings.value("form") {
+    match pairs.value("form") {
         Some(text) => bare_by(text).unwrap_or(false),
         None => false,
     }
 }
 
-/// How many bytes of the stream settings allow.
-fn limit_in(settings: &Settings<'_>) -> u64
-    ensures limit { Some result ≡ spec.limit.value settings.now }
+/// How many bytes of the stream pairs allow.
+fn limit_in(pairs: &Pairs<'_>) -> u64
+    ensures limit { Some result ≡ spec.limit.value pairs.now }
     ensures within { result ≤ 2 ^ 40 }
 {
-    match settings.value("max") {
+    match pairs.value("max") {
         Some(text) => limit_by(text).unwrap_or(USUAL_LIMIT),
         None => USUAL_LIMIT,
     }

@@ -2,7 +2,7 @@
 ghost use Rattle.std.specs.Prelude.{◌≡◌};
 ghost use Rattle.spec_command.specs.Commands as spec;
 ghost use Rattle.spec_command.specs.Pins.{pin_keys};
-ghost use Rattle.spec_command.specs.Request.{is_pin};
+ghost use Rattle.spec_command.specs.Words.{is_pin};
 
 use crate::commands::is_among;
 

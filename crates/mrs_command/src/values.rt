@@ -2,6 +2,7 @@
 ghost use Rattle.std.specs.Prelude.{◌≡◌, ◌≤◌, ◌^◌, option_map, IfSome};
 ghost use Rattle.spec_command.specs.Commands as spec;
 
+use crate::commands::is_among;
 use crate::pin_words::is_pin_key;
 use mrs_names::is_name;
 use number_text::number_below;
@@ -34,8 +35,25 @@ pub(crate) fn limit_by(text: &str) -> Option<u64>
     }
 }
 
-/// Whether a key takes a value that is not empty: that of a pin takes a name, `form` and `max` what they are read from, and
-/// any other key any text.
+/// Whether the values of a key are numbers.
+fn is_number_key(key: &str) -> bool
+    ensures { result ≡ spec.is_one_of spec.number_keys key.now }
+{
+    is_among(&["max"], key)
+}
+
+/// The number that a value of such a key is read as; `None` exactly where it is none within the key's limits, or the key is another.
+pub(crate) fn number_by(key: &str, value: &str) -> Option<u128>
+    ensures { option_map (λ n. n) result ≡ spec.number_by key.now value.now }
+{
+    match key {
+        "max" => limit_by(value).map(u128::from),
+        _ => None,
+    }
+}
+
+/// Whether a key takes a value that is not empty: that of a pin takes a name, `form` and those of numbers what they are read
+/// from, and any other key any text.
 pub(crate) fn takes(key: &str, value: &str) -> bool
     ensures { result ≡ spec.takes key.now value.now }
 {
@@ -43,8 +61,8 @@ pub(crate) fn takes(key: &str, value: &str) -> bool
         is_name(value)
     } else if key == "form" {
         bare_by(value).is_some()
-    } else if key == "max" {
-        limit_by(value).is_some()
+    } else if is_number_key(key) {
+        number_by(key, value).is_some()
     } else {
         true
     }

@@ -6,8 +6,6 @@ mod name_id;
 mod name_limits;
 mod names;
 mod shared;
-#[cfg(test)]
-mod tests;
 
 pub use fault::NameFault;
 pub use name_id::NameId;

@@ -5,3 +5,4 @@ pub mod Fulfilling
 pub mod Performing
 pub mod AssembledLaws
 pub mod LeafLaws
+pub mod Listing

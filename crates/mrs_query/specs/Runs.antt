@@ -5,6 +5,7 @@ use Rattle.spec_run.specs.End.{End}
 use Rattle.spec_run.specs.Scene.{Scene}
 use Rattle.spec_run.specs.Refutation.{IsRefutation}
 use Rattle.spec_run.specs.Answers.{Answers}
+use Rattle.spec_run.specs.Theorem.{ListingTheorem}
 use Rattle.spec_lines.specs.LineFault as spec
 use Rattle.spec_lines.specs.Reasons as reasons
 use Rattle.list_words.specs.Faults.{IsFault}
@@ -45,3 +46,8 @@ pub record Runs (words : List (List ℕ)) (scene : Scene) (err err_after : Writi
   pub text : List ℕ
   pub is : HasText status text
   pub answers : Answers words scene err err_after (end_of status text)
+
+-- with the text of the status, the listing theorem holds of the run
+pub record Lists (words : List (List ℕ)) (scene : Scene) (err err_after : Writing) (status : Status) : Type 0 where
+  pub text : List ℕ
+  pub theorem : ListingTheorem words scene err err_after (end_of status text)

@@ -3,7 +3,7 @@ ghost use Rattle.std.specs.Prelude.{◌≡◌, ◌≤◌, [], ◌∷◌, ◌++�
 ghost use Rattle.spec_run.specs.End as run;
 ghost use Rattle.spec_run.specs.End.{message, why_text};
 ghost use Rattle.spec_run.specs.Scene.{TookText};
-ghost use Rattle.mrs_schema.specs.Faults as schema;
+ghost use Rattle.mrs_walk.specs.Faults as schema;
 ghost use Rattle.release_opening.specs.Documents.{which_of};
 ghost use Rattle.mrs_query.specs.Runs.{told_as};
 ghost use Rattle.mrs_query.specs.Texts.{joined};

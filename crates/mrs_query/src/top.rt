@@ -3,7 +3,7 @@ ghost use Rattle.std.specs.Prelude.{◌≡◌, ℕ, List, map, string_bytes, []}
 ghost use Rattle.spec_run.specs.End.{message, IsEarly, IsUsage};
 ghost use Rattle.spec_run.specs.Answers.{Performs};
 ghost use Rattle.mrs_query.specs.End.{end_of};
-ghost use Rattle.mrs_query.specs.Runs.{HasText, told_as, Runs};
+ghost use Rattle.mrs_query.specs.Runs.{HasText, told_as, Runs, Lists};
 
 use crate::Status;
 use crate::commands::fulfil;
@@ -62,6 +62,15 @@ pub fn run<R: Threads + Sync, V: Shelf, S: Source, K: Sink, E: Sink>(
     err: &mut E,
 ) -> Status
     ensures answers { Runs (map string_bytes words.now) (record {
+      shelf = V.shelving shelf.old;
+      shelf_after = V.shelving shelf.new;
+      input = S.reading input.old;
+      input_after = S.reading input.new;
+      out = K.writing out.old;
+      out_after = K.writing out.new;
+    }) (E.writing err.old) (E.writing err.new) result }
+    // The listing theorem, for `list` in full lines.
+    ensures listing { Lists (map string_bytes words.now) (record {
       shelf = V.shelving shelf.old;
       shelf_after = V.shelving shelf.new;
       input = S.reading input.old;

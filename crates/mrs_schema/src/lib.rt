@@ -1,24 +1,8 @@
 //! Reads the architecture's JSON documents, and names the first place where one leaves the profile.
+//!
+//! Each kind of document has a reader in a crate of its own; they are found here together.
 #![tactic(auto)]
 
-mod aliases;
-mod bits;
-mod constraints;
-mod draft;
-mod expressions;
-mod feature_reader;
-mod features;
-mod functions;
-mod items;
-mod names;
-mod nodes;
-mod params;
-mod reader;
-mod sets;
-#[cfg(test)]
-mod tests;
-
-pub use feature_reader::read_features;
-pub use features::{Features, Param, ParamKind};
+pub use features_reader::{Features, Param, ParamKind, read_features};
+pub use instructions_reader::read_instructions;
 pub use mrs_walk::{NoMemory, ReadFault, SchemaFault, Text, Why};
-pub use reader::read_instructions;

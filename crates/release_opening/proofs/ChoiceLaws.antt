@@ -1,13 +1,9 @@
 -- What features and pins come to, by the definition of an opening.
-use Rattle.std.proofs.Common.{◌≡◌, ◌≢◌, ◌∙◌, refl, sym, ap, subst, ℕ, zero, suc, ◌<◌, ◌^◌, List, [], ◌∷◌, length, map, get_or, bytes_eq, nat_eq, Some, None, Result, Ok, Err, All, arith, length-append}
-use Rattle.std.specs.Prelude.{AllPairs, filter}
-use Rattle.std.proofs.lemmas.Bool.Decides.{Decides-eqb}
-use Rattle.std.proofs.lemmas.List.{length-map, get_or-map}
+use Rattle.std.proofs.Common.{◌≡◌, ◌∙◌, refl, sym, ap, subst, ℕ, ◌<◌, ◌≤◌, ◌^◌, List, length, bytes_eq, nat_eq, Some, None, Result, Ok, Err, All, arith, length-append}
+use Rattle.std.proofs.lemmas.List.{length-map}
 use Rattle.std.proofs.lemmas.List.Elements.{All-from_recursion}
-use Rattle.std.proofs.lemmas.List.Kept.{AllPairs-filter}
-use Rattle.std.proofs.lemmas.Map.Made.{IsDistinct-from_AllPairs}
-use Rattle.spec_expressions.specs.Scope.{Configuration}
-use Rattle.spec_features.specs.Features.{ParamOf, EachName, is_boolean, booleans}
+use Rattle.spec_expressions.specs.Scope.{Flag, Configuration}
+use Rattle.spec_features.specs.Features.{EachName, booleans}
 use Rattle.spec_features.specs.Theory.{TheoryOf, theory}
 use Rattle.spec_features.specs.Fits.{PinOf, unknown_pin}
 use Rattle.spec_features.specs.Choice.{first_configuration}
@@ -16,16 +12,15 @@ use Rattle.spec_command.specs.Pins.{Pin}
 use Rattle.spec_refutation.specs.Derivation.{Step}
 use Rattle.mrs_names.specs.declared.name_id.NameId.{NameId}
 use Rattle.mrs_names.specs.Texts.{AreNames}
-use Rattle.mrs_schema.specs.FeatureViews.{param_of, features_of, features_in, AreFeatures}
-use Rattle.mrs_schema.specs.declared.features.Param.{Param}
-use Rattle.mrs_schema.specs.declared.features.Features.{Features}
+use Rattle.features_reader.specs.FeatureViews.{features_of, features_in, AreFeatures}
+use Rattle.features_reader.specs.declared.features.Features.{Features}
 use Rattle.ast_eval.specs.Choices.{Choices}
 use Rattle.feat_model.specs.Configures as model
 use Rattle.feat_model.specs.Named as named
 use Rattle.feat_model.specs.Named.{IsRefutedBy, IsNamed, pins_in}
 use Rattle.feat_model.specs.declared.faults.ModelFault.{ModelFault}
 use Rattle.feat_model.specs.declared.outcome.Outcome.{Outcome}
-use Rattle.feat_model.proofs.Distinct.{distinct_names}
+use Rattle.feat_model.proofs.Made.{theory_good}
 use Rattle.spec_run.specs.Opening as opening
 use Rattle.spec_run.specs.Opening.{OpeningError, pins_known, fitting, chosen}
 use Rattle.release_opening.specs.Kept.{IsKept, IsChosen}
@@ -61,42 +56,19 @@ is_chosen_of names f pins t config held is found few =
     let all = renamed.booleans_held nat_eq nat_eq (λ n. n) Held (λ m n low high. refl) (features_of f).params held.params in
     let so : IsChosen names t config = record {
       names_are = found.names_are;
-      as_many = found.as_many;
-      atoms = omega (arith, found.first.fits.whole, length-append config.states config.atoms, found.as_many);
+      as_many = ap length found.states_are ∙ length-map found.flags (λ on. Flag on) ∙ found.as_many;
+      atoms = omega (arith, found.first.fits.whole, length-append found.flags config.atoms, found.as_many);
       few = few;
       held = subst (λ ns. All Held ns) (sym (found.names_are ∙ ap (λ (u : TheoryOf ℕ). u.names) is)) (All-from_recursion Held (booleans (features_of f).params) all);
     } in
     subst (λ u. IsChosen names u config) is so
 
--- ---- parameters, each once
-
-some_at : {X : Type 0} (xs : List X) (p : ℕ) → p < length xs → X
-some_at [] p lt = absurd (omega (arith, lt))
-some_at (x ∷ xs) zero lt = x
-some_at (x ∷ xs) (suc p) lt = some_at xs p (omega (arith, lt))
-
-pairs_map : {X Y : Type 0} (R : Y → Y → Type 0) (f : X → Y) (xs : List X) → AllPairs (λ a b. R (f a) (f b)) xs → AllPairs R (map f xs)
-pairs_map R f xs all i j e lt within =
-    let low : j < length xs = omega (arith, within, length-map xs f) in
-    let d = some_at xs j low in
-    let first = get_or-map f xs i d e (omega (arith, lt, low)) in
-    let second = get_or-map f xs j d e low in
-    let P : _ → Type 0 = λ y. R y (get_or (map f xs) j e) in
-    let Q : _ → Type 0 = λ y. R (f (get_or xs i d)) y in
-    subst P (sym first) (subst Q (sym second) (all i j d lt low))
-
-booleans_apart : (params : List Param) → AllPairs (λ first second. first.name.0 ≢ second.name.0) params → AllPairs (λ (a b : ℕ). a ≢ b) (booleans (map param_of params))
-booleans_apart params apart =
-    pairs_map (λ (a b : ℕ). a ≢ b) (λ (p : ParamOf ℕ). p.name) (filter (λ (p : ParamOf ℕ). is_boolean p.kind) (map param_of params))
-    (AllPairs-filter (λ (a b : ParamOf ℕ). a.name ≢ b.name) (λ (p : ParamOf ℕ). is_boolean p.kind) (map param_of params)
-    (pairs_map (λ (a b : ParamOf ℕ). a.name ≢ b.name) param_of params apart))
-
-pub is_kept : (names : List (List ℕ)) (f : Features) (parameters : List NameId) (config : Choices) → AreFeatures f → IsChosen names (theory nat_eq (features_of f)) config
-    → map (λ name. name.0) parameters ≡ booleans (map param_of f.params.items) → IsKept names parameters config
-is_kept names f parameters config sound is same = record {
-  parameters_are = is.names_are ∙ sym same;
-  as_many = is.as_many ∙ sym (ap length is.names_are);
-  distinct = distinct_names parameters (booleans (map param_of f.params.items)) same (IsDistinct-from_AllPairs Decides-eqb (booleans (map param_of f.params.items)) (booleans_apart f.params.items sound.distinct));
-  held = is.held;
-  few = subst (λ n. n < 2 ^ 32) (sym is.atoms) is.few;
-}
+pub is_kept : (names : List (List ℕ)) (f : Features) (config : Choices) → AreFeatures f → IsChosen names (theory nat_eq (features_of f)) config → IsKept names config
+is_kept names f config sound is =
+    let few : length (theory nat_eq (features_of f)).names ≤ 4096 = (theory_good f sound sound.few_parts).few_names in
+    record {
+      as_many = is.as_many ∙ sym (ap length is.names_are);
+      held = is.held;
+      few_parameters = omega (arith, few, ap length is.names_are);
+      few = subst (λ n. n < 2 ^ 32) (sym is.atoms) is.few;
+    }

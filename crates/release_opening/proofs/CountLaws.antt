@@ -18,9 +18,9 @@ use Rattle.mrs_names.specs.Texts.{AreNames}
 use Rattle.mrs_arena.specs.declared.kind.Kind.{Kind}
 use Rattle.mrs_arena.specs.Flat.{FlatNode, ArenaParts}
 use Rattle.mrs_arena.specs.Placed.{preorder, preorders, placed_node, has_kind, leaves_of, aliases_of, text_of}
-use Rattle.mrs_schema.specs.declared.features.Features.{Features}
-use Rattle.mrs_schema.specs.FeatureViews as views
-use Rattle.mrs_schema.proofs.TakenLaws.{same_texts}
+use Rattle.features_reader.specs.declared.features.Features.{Features}
+use Rattle.features_reader.specs.FeatureViews as views
+use Rattle.schema_draft.proofs.TakenLaws.{same_texts}
 use Rattle.release_opening.specs.declared.counted.SetCounts.{SetCounts}
 use Rattle.release_opening.specs.declared.counted.FeatureCounts.{FeatureCounts}
 use Rattle.release_opening.specs.Counted.{set_of, features_of}

@@ -14,8 +14,8 @@ use Rattle.spec_run.specs.Opening.{pinned}
 use Rattle.mrs_names.specs.Texts.{AreNames, IsExtended, place_of}
 use Rattle.mrs_names.proofs.PlaceLaws.{place_of-at, place_of-lt}
 use Rattle.mrs_arena.specs.Placed.{text_of}
-use Rattle.mrs_schema.specs.declared.features.Features.{Features}
-use Rattle.mrs_schema.specs.FeatureViews.{AreFeatures, AreNamed}
+use Rattle.features_reader.specs.declared.features.Features.{Features}
+use Rattle.features_reader.specs.FeatureViews.{AreFeatures, AreNamed}
 use Rattle.feat_model.specs.Named.{pins_in}
 use Rattle.release_opening.specs.Pinned.{ArePins}
 use Rattle.release_opening.specs.Stages.{AreTheirs}

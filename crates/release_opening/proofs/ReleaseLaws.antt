@@ -19,8 +19,8 @@ use Rattle.mrs_arena.specs.Placed.{paths_of}
 use Rattle.mrs_arena.specs.AliasPaths.{aliases_by}
 use Rattle.mrs_arena.proofs.TreePaths.{paths_of-extended}
 use Rattle.insn_tree.proofs.GrownTrees.{aliases_by-extended}
-use Rattle.mrs_schema.specs.FeatureViews.{features_in}
-use Rattle.mrs_schema.specs.declared.features.Features.{Features}
+use Rattle.features_reader.specs.FeatureViews.{features_in}
+use Rattle.features_reader.specs.declared.features.Features.{Features}
 use Rattle.release_opening.specs.declared.opening_error.OpeningError.{OpeningError}
 use Rattle.release_opening.specs.declared.opening_error.OpeningError.TheVariants as error
 use Rattle.release_opening.specs.Opens.{Opens, IsOf}

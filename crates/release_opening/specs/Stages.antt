@@ -12,8 +12,8 @@ use Rattle.spec_instructions.specs.Aliases.{aliases_in}
 use Rattle.mrs_arena.specs.Flat.{ArenaParts}
 use Rattle.mrs_arena.specs.Placed.{IsTree, AreHeld, paths_of}
 use Rattle.mrs_arena.specs.AliasPaths.{aliases_by}
-use Rattle.mrs_schema.specs.FeatureViews.{features_of, features_in, AreFeatures}
-use Rattle.mrs_schema.specs.declared.features.Features.{Features}
+use Rattle.features_reader.specs.FeatureViews.{features_of, features_in, AreFeatures}
+use Rattle.features_reader.specs.declared.features.Features.{Features}
 use Rattle.spec_run.specs.End as run
 use Rattle.spec_run.specs.Opening as opening
 use Rattle.release_opening.specs.declared.unread.Unread.{Unread}

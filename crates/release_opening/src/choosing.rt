@@ -4,7 +4,7 @@ ghost use Rattle.std.specs.Result.{result_map_both};
 ghost use Rattle.mrs_arena.specs.Placed.{text_of};
 ghost use Rattle.spec_features.specs.Features.{EachName};
 ghost use Rattle.spec_features.specs.Theory.{theory};
-ghost use Rattle.mrs_schema.specs.FeatureViews.{features_of, features_in, AreFeatures};
+ghost use Rattle.features_reader.specs.FeatureViews.{features_of, features_in, AreFeatures};
 ghost use Rattle.ast_eval.specs.Choices.{configuration_of};
 ghost use Rattle.spec_command.specs.Commands.{pin_limit};
 ghost use Rattle.spec_command.specs.Pins as spec;

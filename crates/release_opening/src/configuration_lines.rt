@@ -2,12 +2,13 @@
 ghost use Rattle.std.specs.Prelude.{◌≡◌, ◌<◌, ◌^◌, ◌++◌, OnOk, length, codes, decimal, flat_map};
 ghost use Rattle.mrs_arena.specs.Placed.{text_of};
 ghost use Rattle.ast_eval.specs.Choices.{configuration_of};
-ghost use Rattle.spec_run.specs.Configuring.{flag_text, parameter_line, atom_lines};
+ghost use Rattle.ast_eval.specs.ConfigView.{state_told};
+ghost use Rattle.spec_run.specs.Configuring.{flag_text, state_text, parameter_line, atom_lines};
 ghost use Rattle.release_opening.specs.Kept.{IsKept};
 
-use ast_eval::Config;
+use ast_eval::{Config, State};
 use itoa::Buffer;
-use mrs_names::{NameId, Names};
+use mrs_names::Names;
 use std::alloc::AllocError;
 
 /// The end of a line, which tells a state.
@@ -25,29 +26,36 @@ fn push_flag(out: &mut Vec<u8>, on: bool) -> Result<(), AllocError>
     Ok(())
 }
 
+/// Appends the end of a line, which tells the state of a parameter.
+fn push_state(out: &mut Vec<u8>, state: State) -> Result<(), AllocError>
+    ensures { OnOk result (out.new.items ≡ out.old.items ++ state_text (state_told state)) }
+{
+    match state {
+        State::Flag(on) => push_flag(out, on),
+    }
+}
+
 /// Appends the line of a parameter with its name and its state.
-fn push_parameter_line(out: &mut Vec<u8>, name: &str, on: bool) -> Result<(), AllocError>
-    ensures { OnOk result (out.new.items ≡ out.old.items ++ (name.now ++ flag_text on)) }
+fn push_parameter_line(out: &mut Vec<u8>, name: &str, state: State) -> Result<(), AllocError>
+    ensures { OnOk result (out.new.items ≡ out.old.items ++ (name.now ++ state_text (state_told state))) }
 {
     out.extend_from_slice(name.as_bytes())?;
-    push_flag(out, on)
+    push_state(out, state)
 }
 
 /// Appends the lines of the parameters, in order.
 pub(crate) fn push_parameter_lines(
     out: &mut Vec<u8>,
     names: &Names,
-    parameters: &[NameId],
     config: &Config,
 ) -> Result<(), AllocError>
-    requires { IsKept names.now parameters.now config.now }
+    requires { IsKept names.now config.now }
     ensures { OnOk result (out.new.items ≡ out.old.items ++ flat_map parameter_line (configuration_of (text_of names.now) config.now).parameters) }
 {
-    for name in parameters {
-        let Some(on) = config.state(*name) else {
-            unreachable!()
-        };
-        push_parameter_line(out, names.text(*name), on)?;
+    let mut number = 0;
+    'lines: while let Some((name, state)) = config.parameter(number) {
+        push_parameter_line(out, names.text(name), state)?;
+        number += 1;
     }
     Ok(())
 }

@@ -3,13 +3,13 @@ ghost use Rattle.std.specs.Prelude.{◌≡◌, ◌-◌, ◌≤◌, nat_eq, lengt
 ghost use Rattle.spec_features.specs.Features.{booleans};
 ghost use Rattle.spec_features.specs.Theory.{theory};
 ghost use Rattle.mrs_arena.specs.Placed.{leaves_of, aliases_of};
-ghost use Rattle.mrs_schema.specs.FeatureViews.{param_of, features_of, AreFeatures};
+ghost use Rattle.features_reader.specs.FeatureViews.{param_of, features_of, AreFeatures};
 
 use crate::counted::{FeatureCounts, SetCounts};
-use feat_model::Model;
+use feat_model::{Model, is_boolean};
 use feat_proof::NoMemory;
 use mrs_arena::{Arena, NodeId};
-use mrs_schema::{Features, Param, ParamKind};
+use mrs_schema::{Features, Param};
 use std::alloc::Global;
 
 /// How many nodes an arena has, and how many of them are leaves and aliases.
@@ -40,9 +40,8 @@ fn count_booleans(params: &[Param]) -> usize
 {
     let mut count = 0;
     for param in params {
-        match param.kind {
-            ParamKind::Boolean => count += 1,
-            ParamKind::Integer | ParamKind::Enum => {}
+        if is_boolean(param.kind) {
+            count += 1;
         }
     }
     count

@@ -19,7 +19,6 @@ mod opening_features;
 mod opening_log;
 mod opening_release;
 mod opening_set;
-mod parameters;
 mod pinned;
 mod searching;
 mod unread;

@@ -3,7 +3,7 @@ ghost use Rattle.std.specs.Prelude.{◌≡◌, ◌≤◌, ◌<◌, List, length,
 ghost use Rattle.spec_command.specs.Commands.{pin_limit};
 ghost use Rattle.spec_command.specs.Pins as spec;
 ghost use Rattle.spec_features.specs.Features.{EachName};
-ghost use Rattle.mrs_schema.specs.FeatureViews.{features_of, features_in, AreFeatures};
+ghost use Rattle.features_reader.specs.FeatureViews.{features_of, features_in, AreFeatures};
 ghost use Rattle.spec_run.specs.Opening.{configuration_opened, configured};
 ghost use Rattle.spec_run.specs.Commands.{of_checks};
 ghost use Rattle.release_opening.specs.Opens.{Opens, IsOf};
@@ -14,7 +14,6 @@ use crate::choosing::choose;
 use crate::configuration::OpenedConfiguration;
 use crate::opening_error::OpeningError;
 use crate::opening_features::open_features;
-use crate::parameters::parameters;
 use crate::pinned::Pinned;
 use feat_model::Pin;
 use mrs_command::Pins;
@@ -54,6 +53,5 @@ fn configure_by(
     ensures { (asked : List spec.Pin) → ArePins names pins.now asked → Comes (configured (features_in names features.now) asked) result }
 {
     let config = choose(alloc, &names, features, pins)?;
-    let parameters = parameters(alloc, &features.params)?;
-    Ok(OpenedConfiguration::new(names, parameters, config))
+    Ok(OpenedConfiguration::new(names, config))
 }

@@ -5,7 +5,7 @@ use Rattle.std.proofs.lemmas.Bool.{cases_lt, lt-ltb, le-ltb}
 use Rattle.std.proofs.lemmas.Bool.Decides.{Decides-like}
 use Rattle.spec_bits.specs.Bits.{bit_of, slice}
 use Rattle.spec_bits.specs.Pattern.{Digit, value_at}
-use Rattle.spec_bits.specs.Item.{Item, chosen_digits, fixed_digits, value_from, fixes, item_holds}
+use Rattle.spec_bits.specs.Item.{Item, chosen_digits, fixed_digits, value_from, fixes, item_holds, HasItemBits}
 use Rattle.spec_bits.proofs.BitLaws.{bit_of-slice}
 use Rattle.spec_bits.proofs.PatternLaws.{HasFixedBits, pattern_holds-each, value_at-lt}
 
@@ -21,10 +21,6 @@ value_from-below start ds i h = ap (λ b. cond b None (value_at ds (i - start)))
 
 pub value_from-from : (start : ℕ) (ds : List Digit) (i : ℕ) → start ≤ i → value_from start ds i ≡ value_at ds (i - start)
 value_from-from start ds i h = ap (λ b. cond b None (value_at ds (i - start))) (le-ltb i start h)
-
--- each bit that an item fixes has that value
-abbrev pub HasItemBits : Item → ℕ → Type 0
-HasItemBits it w = (i v : ℕ) → fixes it i ≡ Some v → bit_of w i ≡ v
 
 ItemBits-from : (it : Item) (w : ℕ) → HasFixedBits (fixed_digits it) (slice w it.start (length it.digits)) → HasItemBits it w
 ItemBits-from it w h i v s = go (cases_lt i it.start)

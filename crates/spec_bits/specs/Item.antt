@@ -1,7 +1,7 @@
 -- Items of an instruction's encoding: digits at a place of the word, some of them marked as should-be.
 -- A should-be bit is one that encoding diagrams of the Arm Architecture Reference Manual (DDI 0487) write `(0)` or `(1)`; here such a bit never excludes a word.
-use Rattle.std.specs.Prelude.{ℕ, ◌-◌, Bool, not, nat_lt, List, [], ◌∷◌, length, map, Option, None, if◌then◌else◌}
-use Rattle.spec_bits.specs.Bits.{slice}
+use Rattle.std.specs.Prelude.{◌≡◌, ◌↔◌, ℕ, ◌-◌, Bool, true, not, nat_lt, List, [], ◌∷◌, length, map, Option, Some, None, if◌then◌else◌}
+use Rattle.spec_bits.specs.Bits.{bit_of, slice}
 use Rattle.spec_bits.specs.Pattern.{Digit, Either, pattern_holds, value_at}
 
 -- the digits stand in the word from bit `start` up, with one mark for each; the name is its bytes
@@ -35,6 +35,16 @@ fixes it i = value_from it.start (fixed_digits it) i
 abbrev pub should_be : Item → ℕ → Option ℕ
 should_be it i = value_from it.start (should_be_digits it) i
 
--- an item holds at a word: each bit that it fixes has that value
+-- an item holds at a word: its digits that fix their bits hold of the word's bits at its place
 abbrev pub item_holds : Item → ℕ → Bool
 item_holds it w = pattern_holds (fixed_digits it) (slice w it.start (length it.digits))
+
+-- ---- what this comes to
+
+-- each bit that an item fixes has that value in the word
+abbrev pub HasItemBits : Item → ℕ → Type 0
+HasItemBits it w = (i v : ℕ) → fixes it i ≡ Some v → bit_of w i ≡ v
+
+-- an item holds at a word exactly where each bit that it fixes has that value
+abbrev pub ItemsHoldByBits : Type 0
+ItemsHoldByBits = (it : Item) (w : ℕ) → (item_holds it w ≡ true) ↔ HasItemBits it w

@@ -2,7 +2,7 @@
 use Rattle.std.proofs.Common.{◌≡◌, ℕ, zero, suc, ◌+◌, ◌<◌, ◌≤◌, Bool, true, false, cond, List, length, Some, refl, subst, inl, inr, arith}
 use Rattle.std.proofs.lemmas.Bool.{cases_lt}
 use Rattle.std.specs.List.{find, range_with_len}
-use Rattle.spec_command.specs.Request.{is_bad_at, first_bad}
+use Rattle.spec_command.specs.Words.{is_bad_at, first_bad}
 
 -- the first place at which a test passes, from `start` on
 pub record IsFirst (test : ℕ → Bool) (start end place : ℕ) : Type 0 where

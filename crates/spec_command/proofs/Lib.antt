@@ -1,4 +1,5 @@
 pub mod Laws
+pub mod CommandLaws
 pub mod PinLaws
 mod Worked
 mod WorkedNumbers

@@ -1,25 +1,16 @@
--- Words that are accepted hold no more pins than may be.
-use Rattle.std.proofs.Common.{◌≡◌, ℕ, zero, suc, ◌+◌, ◌<◌, ◌≤◌, Bool, true, false, not, ◌==◌, ◌||◌, cond, List, [], ◌∷◌, length, take, get_or, Option, Some, None, is_none, option_map, unwrap_or, option_and_then, Ok, bytes_eq, codes, refl, sym, ap, ◌∙◌, subst, inl, inr, arith, add-one}
+-- A command has no more pins than may be, and asks for no others.
+use Rattle.std.proofs.Common.{◌≡◌, ℕ, zero, suc, ◌+◌, ◌<◌, ◌≤◌, Bool, true, false, not, ◌==◌, ◌||◌, cond, List, [], ◌∷◌, length, take, get_or, Option, Some, None, is_none, option_map, unwrap_or, option_and_then, Ok, bytes_eq, codes, refl, sym, ap, ◌∙◌, subst, arith, add-one}
 use Rattle.std.specs.Prelude.{nat_lt}
 use Rattle.std.proofs.Math.Seq.{take-length}
-use Rattle.std.specs.List.{find, range_with_len, count_by, cons_option}
-use Rattle.std.proofs.lemmas.Bool.{cases_lt, ltb-true, and_parts}
+use Rattle.std.specs.List.{count_by, cons_option}
+use Rattle.std.proofs.lemmas.Bool.{ltb-true, and_parts}
 use Rattle.std.proofs.lemmas.List.Sums.{count_by_more_yes, count_by_more_no, sum_by-cons}
 use Rattle.spec_command.specs.Ask.{handed}
 use Rattle.spec_command.specs.Setting.{setting_in, settings_in, value_in}
-use Rattle.spec_command.specs.Commands.{Release, Configured, Checks, Request, AskList, AskAsm, AskLeaf, AskConfig, AskProof, AskCheck, list_command, asm_command, leaf_command, config_command, proof_command, check_command, release, bare_by, form, limit_by, limit, configured, checks, pin_limit, is_one_of, takes}
+use Rattle.spec_command.specs.Commands.{Release, Configured, Checks, Request, Verb, AskList, AskAsm, AskLeaf, AskConfig, AskProof, AskCheck, list_verb, asm_verb, leaf_verb, config_verb, proof_verb, check_verb, release, bare_by, form, limit_by, limit, configured, checks, pin_limit, is_one_of, takes}
 use Rattle.spec_command.specs.Pins.{Pin, pin_keys, pins_in}
-use Rattle.spec_command.specs.Request.{is_pin, is_good, is_bad_at, first_bad, complete, settled, said, request}
-
--- a place that a search has passed fails its test
-passed : (test : ℕ → Bool) (start count : ℕ) → find test (range_with_len start count) ≡ None → (k : ℕ) → start ≤ k → k < start + count → test k ≡ false
-passed test start zero none k low high = absurd (omega arith)
-passed test start (suc n) none k low high = go (test start) refl none (passed test (start + 1) n)
-  where
-    go : (b : Bool) → test start ≡ b → cond b (Some start) (find test (range_with_len (start + 1) n)) ≡ None
-        → (find test (range_with_len (start + 1) n) ≡ None → (k : ℕ) → start + 1 ≤ k → k < (start + 1) + n → test k ≡ false) → test k ≡ false
-    go true here h later = absurd cc
-    go false here h later = elim (cases_lt start k) [ inl above ↦ later h k (omega arith) (omega arith) | inr up ↦ (let same : start ≡ k = omega arith in rw (← same) here) ]
+use Rattle.spec_command.specs.Words.{Command, asked, is_pin, is_good, first_bad, spoken}
+use Rattle.spec_command.proofs.CommandLaws.{spoken_is, by_verb, good_at}
 
 -- ---- how many pins there are
 
@@ -31,18 +22,14 @@ room_of keys earlier (Some pair) good pin =
     let room = (and_parts (is_one_of keys pair.0) _ (and_parts (not (length pair.1 == 0)) _ (and_parts (takes pair.0 pair.1) _ good).1).1).1 in
     ltb-true (count_by is_pin earlier) pin_limit (ap (λ b. cond b (nat_lt (count_by is_pin earlier) pin_limit) (is_none (value_in pair.0 (settings_in earlier)))) (sym pin) ∙ room)
 
-not_not : (b : Bool) → not b ≡ false → b ≡ true
-not_not true h = refl
-not_not false h = absurd cc
-
 -- so where all words are good, no more of them are pins than may be
-few_of_first : (keys words : List (List ℕ)) → ((k : ℕ) → 0 ≤ k → k < 0 + length words → is_bad_at keys words k ≡ false) → (n : ℕ) → n ≤ length words → count_by is_pin (take n words) ≤ pin_limit
-few_of_first keys words good zero within = omega arith
-few_of_first keys words good (suc n) within = subst (λ i. count_by is_pin (take i words) ≤ pin_limit) (add-one n) (go (is_pin (get_or words n [])) refl (few_of_first keys words good n (omega arith)))
+few_of_first : (keys words : List (List ℕ)) → first_bad keys words ≡ None → (n : ℕ) → n ≤ length words → count_by is_pin (take n words) ≤ pin_limit
+few_of_first keys words first zero within = omega arith
+few_of_first keys words first (suc n) within = subst (λ i. count_by is_pin (take i words) ≤ pin_limit) (add-one n) (go (is_pin (get_or words n [])) refl (few_of_first keys words first n (omega arith)))
   where
     go : (b : Bool) → is_pin (get_or words n []) ≡ b → count_by is_pin (take n words) ≤ pin_limit → count_by is_pin (take (n + 1) words) ≤ pin_limit
     go true pin before =
-        let room = room_of keys (take n words) (setting_in (get_or words n [])) (not_not _ (good n (omega arith) (omega arith))) pin in
+        let room = room_of keys (take n words) (setting_in (get_or words n [])) (good_at keys words first n (omega arith)) pin in
         omega (arith, count_by_more_yes is_pin words n [] (omega arith) pin)
     go false pin before = omega (arith, count_by_more_no is_pin words n [] (omega arith) pin)
 
@@ -65,7 +52,7 @@ pins_few (word ∷ words) = subst (λ n. length (pins_in (settings_in (word ∷ 
 -- behind words that are all good, no more pins stand than may be
 pub few_pins : (keys words : List (List ℕ)) → first_bad keys words ≡ None → length (pins_in (settings_in words)) ≤ pin_limit
 few_pins keys words first =
-    let all = few_of_first keys words (passed (is_bad_at keys words) 0 (length words) first) (length words) (omega arith) in
+    let all = few_of_first keys words first (length words) (omega arith) in
     let some = pins_few words in
     omega (arith, ap (count_by is_pin) (take-length words))
 
@@ -79,90 +66,82 @@ pinned_in (AskConfig features pins) = pins
 pinned_in (AskProof log) = []
 pinned_in (AskCheck documents) = []
 
--- what settings say of features
-abbrev told : List (List ℕ) → Configured
-told words = record { features = value_in (codes "features") (settings_in words); pins = pins_in (settings_in words) }
+-- a verb asks for no more pins than the settings are
+abbrev AsksFew : Verb → Type 0
+AsksFew verb = (settings : List (List ℕ × List ℕ)) (r : Request) → verb.asks.value settings ≡ Some r → length (pinned_in r) ≤ length (pins_in settings)
 
-list_few : (words : List (List ℕ)) (place : Option ℕ) (asked : Request) → first_bad list_command.asks.keys words ≡ place → settled list_command words place ≡ Ok asked → length (pinned_in asked) ≤ pin_limit
-list_few words (Some place) asked first h = absurd cc
-list_few words None asked first h = go (release.value (settings_in words)) h
+no_more : (settings : List (List ℕ × List ℕ)) (one r : Request) → length (pinned_in one) ≤ length (pins_in settings) → Some one ≡ Some r → length (pinned_in r) ≤ length (pins_in settings)
+no_more settings one r few h = let same : one ≡ r = cc in subst (λ x. length (pinned_in x) ≤ length (pins_in settings)) same few
+
+-- what settings say of features
+abbrev told : List (List ℕ × List ℕ) → Configured
+told settings = record { features = value_in (codes "features") settings; pins = pins_in settings }
+
+list_few : AsksFew list_verb
+list_few settings r h = go (release.value settings) h
   where
     bare : Bool
-    bare = unwrap_or (option_and_then bare_by (value_in (codes "form") (settings_in words))) false
+    bare = unwrap_or (option_and_then bare_by (value_in (codes "form") settings)) false
 
     most : ℕ
-    most = unwrap_or (option_and_then limit_by (value_in (codes "max") (settings_in words))) 4294967296
+    most = unwrap_or (option_and_then limit_by (value_in (codes "max") settings)) 4294967296
 
     -- what is asked for, by a release
     by_release : Option Release → Option Request
-    by_release found = (handed (handed (handed (record { keys = []; value = λ _. option_map (λ from bare most by. AskList from bare most by) found }) form) limit) configured).value (settings_in words)
+    by_release found = (handed (handed (handed (record { keys = []; value = λ _. option_map (λ from bare most by. AskList from bare most by) found }) form) limit) configured).value settings
 
-    go : (found : Option Release) → complete (length words + 1) (by_release found) ≡ Ok asked → length (pinned_in asked) ≤ pin_limit
+    go : (found : Option Release) → by_release found ≡ Some r → length (pinned_in r) ≤ length (pins_in settings)
     go None h = absurd cc
-    go (Some r) h = let same : AskList r bare most (told words) ≡ asked = cc in rw (← same) (few_pins list_command.asks.keys words first)
+    go (Some from) h = no_more settings (AskList from bare most (told settings)) r (omega arith) h
 
-asm_few : (words : List (List ℕ)) (place : Option ℕ) (asked : Request) → first_bad asm_command.asks.keys words ≡ place → settled asm_command words place ≡ Ok asked → length (pinned_in asked) ≤ pin_limit
-asm_few words (Some place) asked first h = absurd cc
-asm_few words None asked first h = go (release.value (settings_in words)) h
+asm_few : AsksFew asm_verb
+asm_few settings r h = go (release.value settings) h
   where
     most : ℕ
-    most = unwrap_or (option_and_then limit_by (value_in (codes "max") (settings_in words))) 4294967296
+    most = unwrap_or (option_and_then limit_by (value_in (codes "max") settings)) 4294967296
 
     -- what is asked for, by a release
     by_release : Option Release → Option Request
-    by_release found = (handed (handed (record { keys = []; value = λ _. option_map (λ from most by. AskAsm from most by) found }) limit) configured).value (settings_in words)
+    by_release found = (handed (handed (record { keys = []; value = λ _. option_map (λ from most by. AskAsm from most by) found }) limit) configured).value settings
 
-    go : (found : Option Release) → complete (length words + 1) (by_release found) ≡ Ok asked → length (pinned_in asked) ≤ pin_limit
+    go : (found : Option Release) → by_release found ≡ Some r → length (pinned_in r) ≤ length (pins_in settings)
     go None h = absurd cc
-    go (Some r) h = let same : AskAsm r most (told words) ≡ asked = cc in rw (← same) (few_pins asm_command.asks.keys words first)
+    go (Some from) h = no_more settings (AskAsm from most (told settings)) r (omega arith) h
 
-config_few : (words : List (List ℕ)) (place : Option ℕ) (asked : Request) → first_bad config_command.asks.keys words ≡ place → settled config_command words place ≡ Ok asked → length (pinned_in asked) ≤ pin_limit
-config_few words (Some place) asked first h = absurd cc
-config_few words None asked first h = go (value_in (codes "features") (settings_in words)) h
+config_few : AsksFew config_verb
+config_few settings r h = go (value_in (codes "features") settings) h
   where
-    go : (features : Option (List ℕ)) → complete (length words + 1) (option_and_then (λ name. Some (AskConfig name (pins_in (settings_in words)))) features) ≡ Ok asked → length (pinned_in asked) ≤ pin_limit
+    go : (features : Option (List ℕ)) → option_and_then (λ name. Some (AskConfig name (pins_in settings))) features ≡ Some r → length (pinned_in r) ≤ length (pins_in settings)
     go None h = absurd cc
-    go (Some name) h = let same : AskConfig name (pins_in (settings_in words)) ≡ asked = cc in rw (← same) (few_pins config_command.asks.keys words first)
+    go (Some name) h = no_more settings (AskConfig name (pins_in settings)) r (omega arith) h
 
--- the other commands have none
-none_of_leaf : (n : ℕ) (found : Option Release) (label : Option (List ℕ)) (asked : Request) → complete n (option_and_then (λ r. option_map (AskLeaf r) label) found) ≡ Ok asked → pinned_in asked ≡ []
-none_of_leaf n None label asked h = absurd cc
-none_of_leaf n (Some r) None asked h = absurd cc
-none_of_leaf n (Some r) (Some label) asked h = let same : AskLeaf r label ≡ asked = cc in rw (← same) refl
-
-none_of_proof : (n : ℕ) (log : Option (List ℕ)) (asked : Request) → complete n (option_map AskProof log) ≡ Ok asked → pinned_in asked ≡ []
-none_of_proof n None asked h = absurd cc
-none_of_proof n (Some log) asked h = let same : AskProof log ≡ asked = cc in rw (← same) refl
-
-none_of_check : (n : ℕ) (documents : Option Checks) (asked : Request) → complete n (option_map AskCheck documents) ≡ Ok asked → pinned_in asked ≡ []
-none_of_check n None asked h = absurd cc
-none_of_check n (Some documents) asked h = let same : AskCheck documents ≡ asked = cc in rw (← same) refl
-
-few_of_none : (asked : Request) → pinned_in asked ≡ [] → length (pinned_in asked) ≤ pin_limit
-few_of_none asked none = rw none (omega arith)
-
-leaf_few : (words : List (List ℕ)) (place : Option ℕ) (asked : Request) → settled leaf_command words place ≡ Ok asked → length (pinned_in asked) ≤ pin_limit
-leaf_few words (Some place) asked h = absurd cc
-leaf_few words None asked h = few_of_none asked (none_of_leaf _ (release.value (settings_in words)) (value_in (codes "label") (settings_in words)) asked h)
-
-proof_few : (words : List (List ℕ)) (place : Option ℕ) (asked : Request) → settled proof_command words place ≡ Ok asked → length (pinned_in asked) ≤ pin_limit
-proof_few words (Some place) asked h = absurd cc
-proof_few words None asked h = few_of_none asked (none_of_proof _ (value_in (codes "log") (settings_in words)) asked h)
-
-check_few : (words : List (List ℕ)) (place : Option ℕ) (asked : Request) → settled check_command words place ≡ Ok asked → length (pinned_in asked) ≤ pin_limit
-check_few words (Some place) asked h = absurd cc
-check_few words None asked h = few_of_none asked (none_of_check _ (checks.value (settings_in words)) asked h)
-
--- what is asked for has at most as many pins as there may be
-pub pinned_few : (words : List (List ℕ)) (asked : Request) → request words ≡ Ok asked → length (pinned_in asked) ≤ pin_limit
-pinned_few [] asked h = absurd cc
-pinned_few (word ∷ words) asked h = go (bytes_eq word list_command.word) (bytes_eq word asm_command.word) (bytes_eq word leaf_command.word) (bytes_eq word config_command.word) (bytes_eq word proof_command.word) (bytes_eq word check_command.word) h
+-- the other verbs have none
+leaf_few : AsksFew leaf_verb
+leaf_few settings r h = go (release.value settings) (value_in (codes "label") settings) h
   where
-    go : (list asm leaf config proof check : Bool) → said (cond list (Some list_command) (cond asm (Some asm_command) (cond leaf (Some leaf_command) (cond config (Some config_command) (cond proof (Some proof_command) (cond check (Some check_command) None)))))) words ≡ Ok asked → length (pinned_in asked) ≤ pin_limit
-    go true asm leaf config proof check h = list_few words (first_bad list_command.asks.keys words) asked refl h
-    go false true leaf config proof check h = asm_few words (first_bad asm_command.asks.keys words) asked refl h
-    go false false true config proof check h = leaf_few words (first_bad leaf_command.asks.keys words) asked h
-    go false false false true proof check h = config_few words (first_bad config_command.asks.keys words) asked refl h
-    go false false false false true check h = proof_few words (first_bad proof_command.asks.keys words) asked h
-    go false false false false false true h = check_few words (first_bad check_command.asks.keys words) asked h
-    go false false false false false false h = absurd cc
+    go : (found : Option Release) (label : Option (List ℕ)) → option_and_then (λ from. option_map (AskLeaf from) label) found ≡ Some r → length (pinned_in r) ≤ length (pins_in settings)
+    go None label h = absurd cc
+    go (Some from) None h = absurd cc
+    go (Some from) (Some label) h = no_more settings (AskLeaf from label) r (omega arith) h
+
+proof_few : AsksFew proof_verb
+proof_few settings r h = go (value_in (codes "log") settings) h
+  where
+    go : (log : Option (List ℕ)) → option_map AskProof log ≡ Some r → length (pinned_in r) ≤ length (pins_in settings)
+    go None h = absurd cc
+    go (Some log) h = no_more settings (AskProof log) r (omega arith) h
+
+check_few : AsksFew check_verb
+check_few settings r h = go (checks.value settings) h
+  where
+    go : (documents : Option Checks) → option_map AskCheck documents ≡ Some r → length (pinned_in r) ≤ length (pins_in settings)
+    go None h = absurd cc
+    go (Some documents) h = no_more settings (AskCheck documents) r (omega arith) h
+
+-- what a command asks for has at most as many pins as there may be
+pub pinned_few : (words : List (List ℕ)) (c : Command) (r : Request) → spoken words ≡ Ok c → asked c ≡ Some r → length (pinned_in r) ≤ pin_limit
+pinned_few words c r says asks =
+    let is = spoken_is words c says in
+    let few = by_verb AsksFew list_few asm_few leaf_few config_few proof_few check_few is.word c.verb is.named c.pairs r asks in
+    let most = few_pins c.verb.asks.keys is.behind is.good in
+    omega (arith, few, most, ap (λ pairs. length (pins_in pairs)) is.pairs)

@@ -2,7 +2,8 @@
 use Rattle.std.specs.Prelude.{◌≡◌, [], ◌∷◌, true, false, Some, None, Ok, Err, codes, refl}
 use Rattle.spec_command.specs.Setting.{value_in}
 use Rattle.spec_command.specs.Pins.{pins_in}
-use Rattle.spec_command.specs.Commands.{Configured, AskList, AskAsm, AskLeaf, AskConfig, AskProof, AskCheck, list_command, leaf_command, config_command, check_command}
+use Rattle.spec_command.specs.Commands.{Configured, AskList, AskAsm, AskLeaf, AskConfig, AskProof, AskCheck, list_verb, leaf_verb, config_verb, check_verb}
+use Rattle.spec_command.specs.Words.{IsNumber, command}
 use Rattle.spec_command.specs.Request.{request}
 
 -- no document of features, and no pin
@@ -143,16 +144,16 @@ bad_before_missing : request (codes "list" ∷ codes "isa=X" ∷ codes "label=x"
 bad_before_missing = refl
 
 -- the keys of a command are those that its request is made of
-list_keys : list_command.asks.keys ≡ codes "insns" ∷ codes "isa" ∷ codes "form" ∷ codes "max" ∷ codes "features" ∷ codes "on" ∷ codes "off" ∷ []
+list_keys : list_verb.asks.keys ≡ codes "insns" ∷ codes "isa" ∷ codes "form" ∷ codes "max" ∷ codes "features" ∷ codes "on" ∷ codes "off" ∷ []
 list_keys = refl
 
-config_keys : config_command.asks.keys ≡ codes "features" ∷ codes "on" ∷ codes "off" ∷ []
+config_keys : config_verb.asks.keys ≡ codes "features" ∷ codes "on" ∷ codes "off" ∷ []
 config_keys = refl
 
-check_keys : check_command.asks.keys ≡ codes "insns" ∷ codes "isa" ∷ codes "features" ∷ []
+check_keys : check_verb.asks.keys ≡ codes "insns" ∷ codes "isa" ∷ codes "features" ∷ []
 check_keys = refl
 
-leaf_keys : leaf_command.asks.keys ≡ codes "insns" ∷ codes "isa" ∷ codes "label" ∷ []
+leaf_keys : leaf_verb.asks.keys ≡ codes "insns" ∷ codes "isa" ∷ codes "label" ∷ []
 leaf_keys = refl
 
 -- the first setting of a key gives its value
@@ -165,3 +166,24 @@ no_value = refl
 -- pins of both keys stand in the order of the words, also where they clash
 pins_in_order : pins_in ((codes "on", codes "A") ∷ (codes "insns", codes "i") ∷ (codes "off", codes "B") ∷ (codes "off", codes "A") ∷ []) ≡ (codes "A", true) ∷ (codes "B", false) ∷ (codes "A", false) ∷ []
 pins_in_order = refl
+
+-- a command has its pairs in the order of the words, whatever they mean; the same places are refused
+in_order : command (codes "list" ∷ codes "on=B" ∷ codes "max=0x10" ∷ codes "insns=a=b" ∷ codes "on=A" ∷ [])
+    ≡ Ok (record { verb = list_verb; pairs = (codes "on", codes "B") ∷ (codes "max", codes "0x10") ∷ (codes "insns", codes "a=b") ∷ (codes "on", codes "A") ∷ [] })
+in_order = refl
+
+no_pairs_refused : command [] ≡ Err 0
+no_pairs_refused = refl
+
+bad_pair_refused : command (codes "list" ∷ codes "isa=X" ∷ codes "label=x" ∷ []) ≡ Err 2
+bad_pair_refused = refl
+
+missing_key_refused : command (codes "check" ∷ codes "isa=A" ∷ []) ≡ Err 2
+missing_key_refused = refl
+
+-- the number of a key is that of its value; there is none where no pair has the key
+number_read : IsNumber (codes "max") ((codes "insns", codes "i") ∷ (codes "max", codes "0x10") ∷ []) (Some 16)
+number_read = refl
+
+number_not_said : IsNumber (codes "max") ((codes "insns", codes "i") ∷ []) None
+number_not_said = refl

@@ -1,4 +1,4 @@
--- The commands: the word that says each, its keys, and what it asks for. The rules are this project's own.
+-- The commands' verbs: the word that says each, its keys, and what it asks for. The rules are this project's own.
 use Rattle.std.specs.Prelude.{ℕ, Bool, true, false, ◌||◌, List, [], ◌∷◌, Option, Some, None, is_some, codes, bytes_eq, if◌then◌else◌}
 use Rattle.std.specs.List.{list_any}
 use Rattle.spec_names.specs.Name.{is_name}
@@ -35,8 +35,8 @@ pub data Request : Type 0 where
   AskProof : List ℕ → Request
   AskCheck : Checks → Request
 
--- a command: the word that says it, and what it asks of the settings behind it
-pub record Command : Type 0 where
+-- a verb: the word that says it, and what it asks of the settings behind it
+pub record Verb : Type 0 where
   pub word : List ℕ
   pub asks : Ask Request
 
@@ -71,31 +71,31 @@ abbrev pub checks : Ask Checks
 checks = provided names_one (handed (together (λ insns isa features. record { insns = insns; isa = isa; features = features }) (optional (codes "insns")) (may_say (codes "isa") (codes "A64"))) (optional (codes "features")))
 
 -- lists the words of a stream
-abbrev pub list_command : Command
-list_command = record { word = codes "list"; asks = handed (handed (handed (made_into (λ from bare most by. AskList from bare most by) release) form) limit) configured }
+abbrev pub list_verb : Verb
+list_verb = record { word = codes "list"; asks = handed (handed (handed (made_into (λ from bare most by. AskList from bare most by) release) form) limit) configured }
 
 -- assembles the lines of a stream
-abbrev pub asm_command : Command
-asm_command = record { word = codes "asm"; asks = handed (handed (made_into (λ from most by. AskAsm from most by) release) limit) configured }
+abbrev pub asm_verb : Verb
+asm_verb = record { word = codes "asm"; asks = handed (handed (made_into (λ from most by. AskAsm from most by) release) limit) configured }
 
 -- shows one leaf
-abbrev pub leaf_command : Command
-leaf_command = record { word = codes "leaf"; asks = together AskLeaf release (needed (codes "label")) }
+abbrev pub leaf_verb : Verb
+leaf_verb = record { word = codes "leaf"; asks = together AskLeaf release (needed (codes "label")) }
 
 -- tells the first configuration that fits
-abbrev pub config_command : Command
-config_command = record { word = codes "config"; asks = together AskConfig (needed (codes "features")) pins }
+abbrev pub config_verb : Verb
+config_verb = record { word = codes "config"; asks = together AskConfig (needed (codes "features")) pins }
 
 -- checks a log
-abbrev pub proof_command : Command
-proof_command = record { word = codes "proof"; asks = made_into AskProof (needed (codes "log")) }
+abbrev pub proof_verb : Verb
+proof_verb = record { word = codes "proof"; asks = made_into AskProof (needed (codes "log")) }
 
 -- checks documents
-abbrev pub check_command : Command
-check_command = record { word = codes "check"; asks = made_into AskCheck checks }
+abbrev pub check_verb : Verb
+check_verb = record { word = codes "check"; asks = made_into AskCheck checks }
 
-abbrev pub commands : List Command
-commands = list_command ∷ asm_command ∷ leaf_command ∷ config_command ∷ proof_command ∷ check_command ∷ []
+abbrev pub verbs : List Verb
+verbs = list_verb ∷ asm_verb ∷ leaf_verb ∷ config_verb ∷ proof_verb ∷ check_verb ∷ []
 
 -- the most pins
 abbrev pub pin_limit : ℕ
@@ -105,11 +105,19 @@ pin_limit = 4096
 abbrev pub is_one_of : List (List ℕ) → List ℕ → Bool
 is_one_of keys key = list_any (λ one. bytes_eq one key) keys
 
--- whether a key takes a value that is not empty: that of a pin takes a name, `form` and `max` what they are read from, and any
--- other key any text
+-- the keys whose values are numbers
+abbrev pub number_keys : List (List ℕ)
+number_keys = codes "max" ∷ []
+
+-- the number that a value of such a key is read as, where it lies within the key's limits
+abbrev pub number_by : List ℕ → List ℕ → Option ℕ
+number_by key value = if bytes_eq key (codes "max") then limit_by value else None
+
+-- whether a key takes a value that is not empty: that of a pin takes a name, `form` and those of numbers what they are read from,
+-- and any other key any text
 abbrev pub takes : List ℕ → List ℕ → Bool
 takes key value =
     if is_one_of pin_keys key then is_name value
     else (if bytes_eq key (codes "form") then is_some (bare_by value)
-    else (if bytes_eq key (codes "max") then is_some (limit_by value)
+    else (if is_one_of number_keys key then is_some (number_by key value)
     else true))

@@ -6,6 +6,7 @@ ghost use Rattle.spec_decode.specs.Verdict.{VerdictsAreExact};
 ghost use Rattle.spec_decode.specs.Found.{FoundIsExact};
 ghost use Rattle.spec_decode.specs.Preferred.{PreferredIsExact, PreferredHasLeafVerdict};
 ghost use Rattle.spec_decode.specs.Bucket.{BucketsAreOne, BucketsHoldFound};
+ghost use Rattle.spec_decode.specs.HasBucket.{WordsHaveBuckets};
 
 /// A law on verdicts: a path's verdict is No exactly where an item on the path does not hold at the word or a condition
 /// on it is No, each condition under the fields that are visible at its own node, and Yes exactly where all items hold
@@ -20,7 +21,12 @@ pub fn found_is_exact()
     ensures { FoundIsExact }
 {}
 
-/// A law on buckets: each word has one.
+/// A law on buckets: each word has one, since each bit that is looked at leaves fewer leaves.
+pub fn words_have_buckets()
+    ensures { WordsHaveBuckets }
+{}
+
+/// A law on buckets: no word has two.
 pub fn buckets_are_one()
     ensures { BucketsAreOne }
 {}

@@ -10,3 +10,4 @@ pub mod FillLaws
 pub mod ReadLaws
 pub mod FormLaws
 pub mod LimitLaws
+pub mod ShapeReadLaws

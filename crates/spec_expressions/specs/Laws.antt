@@ -1,17 +1,17 @@
 -- What holds of truths, values and the walk of an expression.
-use Rattle.std.specs.Prelude.{◌≡◌, ℕ, ◌+◌, ◌-◌, ◌≤◌, ◌<◌, pos, List, length, Bool, false, not, ◌&&◌, ◌||◌, bytes_eq, codes, Some, is_some, Ok, Err}
+use Rattle.std.specs.Prelude.{◌≡◌, ℕ, ◌+◌, ◌-◌, ◌≤◌, ◌<◌, pos, List, [], length, Bool, true, false, not, ◌&&◌, ◌||◌, bytes_eq, codes, Some, is_some, Ok, Err}
 use Rattle.std.specs.List.{list_any}
 use Rattle.spec_bits.specs.Bits.{slice}
 use Rattle.spec_bits.specs.Pattern.{Digit, pattern_holds}
-use Rattle.spec_walk.specs.Event.{TooMany}
+use Rattle.spec_walk.specs.Event.{TooMany, WrongShape}
 use Rattle.spec_walk.specs.Limits.{Counts, name_limit}
 use Rattle.spec_walk.specs.Walk as walk
 use Rattle.spec_walk.specs.Walk.{gives, ◌>>>◌}
-use Rattle.spec_walk.specs.Spot.{Spot, is_object, needed}
+use Rattle.spec_walk.specs.Spot.{Spot, is_object, wrong, needed, named, elements, each}
 use Rattle.spec_walk.specs.Descend.{elements_at}
-use Rattle.spec_expressions.specs.Expression.{Expr, Named, function_named}
-use Rattle.spec_expressions.specs.Shape.{AName, ACall, shape_of}
-use Rattle.spec_expressions.specs.Reading.{Itself, reader, expression}
+use Rattle.spec_expressions.specs.Expression.{Op, Expr, Name, Not, Binary, Call, Set, Join, Slice, Named, function_named, exprs_of}
+use Rattle.spec_expressions.specs.Shape.{Shape, Plain, AName, ANot, ABinary, ACall, ASet, AJoin, AnIndex, ASlice, shape_of}
+use Rattle.spec_expressions.specs.Reading.{Itself, reader, counted, function_at, sole, expression}
 use Rattle.spec_expressions.specs.Truth.{Truth, Yes, No, truth_of, negation, conjunction, disjunction, implication, equivalence}
 use Rattle.spec_expressions.specs.Digits.{number_of, equal_digits, digits_between}
 use Rattle.spec_expressions.specs.Scope.{Field, field_digits}
@@ -58,6 +58,36 @@ pub record AreSlices : Type 0 where
 -- limits apart, the walk of an expression has a value exactly at an object
 abbrev pub EachObjectIsOne : Type 0
 EachObjectIsOne = (here : Spot) → is_some (walk.value (expression here)) ≡ is_object here.value
+
+-- an object of that shape
+pub record HasShape (here : Spot) (shape : Shape) : Type 0 where
+  pub object : is_object here.value ≡ true
+  pub is : shape_of here.value ≡ shape
+
+-- the expression that a member is; the values of an array that a member is, each read in one way; and the one element of `arguments`, read so
+abbrev pub part : List ℕ → Spot → walk.Walk Expr
+part key here = needed key here >>> expression
+
+abbrev pub parts_by : (Spot → walk.Walk Expr) → List ℕ → Spot → walk.Walk (List Expr)
+parts_by read key here = needed key here >>> λ list. elements list >>> each (λ _. read) list.at []
+
+abbrev pub argument_by : (Spot → walk.Walk Expr) → Spot → walk.Walk Expr
+argument_by read here = parts_by read (codes "arguments") here >>> λ es. walk.Done (sole es)
+
+-- what is no object is a fault, and an object is read by its shape: its parts first, then the name that it holds, then itself
+pub record ShapesAreRead : Type 0 where
+  pub no_object : (here : Spot) → is_object here.value ≡ false → expression here ≡ wrong here WrongShape
+  pub plain : (here : Spot) (e : Expr) → HasShape here (Plain e) → expression here ≡ counted here e
+  pub name : (here : Spot) (s : List ℕ) → HasShape here (AName s) → expression here ≡ named here s >>> λ _. counted here (Name s)
+  pub negated : (here : Spot) → HasShape here ANot → expression here ≡ part (codes "expr") here >>> λ e. counted here (Not e)
+  pub binary : (here : Spot) (op : Op) → HasShape here (ABinary op) → expression here ≡ part (codes "left") here >>> λ l. part (codes "right") here >>> λ r. counted here (Binary op l r)
+  pub call : (here : Spot) (s : List ℕ) → HasShape here (ACall s)
+      → expression here ≡ parts_by expression (codes "arguments") here >>> λ es. function_at here (function_named s) >>> λ f. counted here (Call f (exprs_of es))
+  pub set : (here : Spot) → HasShape here ASet → expression here ≡ parts_by expression (codes "values") here >>> λ es. counted here (Set (exprs_of es))
+  pub join : (here : Spot) → HasShape here AJoin → expression here ≡ parts_by expression (codes "values") here >>> λ es. counted here (Join (exprs_of es))
+  pub index : (here : Spot) → HasShape here AnIndex → expression here ≡ part (codes "var") here >>> λ e. argument_by expression here >>> λ bit. counted here (Slice e bit bit)
+  pub slice : (here : Spot) → HasShape here ASlice
+      → expression here ≡ part (codes "var") here >>> λ e. argument_by (part (codes "left")) here >>> λ high. argument_by (part (codes "right")) here >>> λ low. counted here (Slice e high low)
 
 -- ---- the limit on names
 

@@ -4,7 +4,7 @@
 #![tactic(auto)]
 
 ghost use Rattle.spec_expressions.specs.Known.{KnownStays, RestsOnNoOther};
-ghost use Rattle.spec_expressions.specs.Laws.{AreKleene, AreSlices, EachObjectIsOne, EqualIsSymmetric, NamesAreLimited};
+ghost use Rattle.spec_expressions.specs.Laws.{AreKleene, AreSlices, EachObjectIsOne, EqualIsSymmetric, NamesAreLimited, ShapesAreRead};
 
 /// A law on truths: the tables are Kleene's strong ones. They agree with Booleans on what is known, a No decides an And
 /// beside anything, and And and Or mirror each other.
@@ -33,6 +33,12 @@ pub fn fields_are_slices()
 /// A law on the walk: limits apart, it has a value exactly at an object.
 pub fn each_object_is_one()
     ensures { EachObjectIsOne }
+{}
+
+/// A law on the walk, a line for each shape: the parts of an object are read first, then the name that it holds, and then
+/// it is counted itself. What is no object is a fault.
+pub fn each_shape_is_read()
+    ensures { ShapesAreRead }
 {}
 
 /// A law on the walk: the limit on names is passed at the expression that holds the name, behind its parts.

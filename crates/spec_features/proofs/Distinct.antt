@@ -1,5 +1,5 @@
 -- Things, each once, with other names in place of theirs.
-use Rattle.std.proofs.Common.{◌≡◌, ◌∙◌, refl, sym, ap, Bool, true, false, not, cond, List, [], ◌∷◌, map}
+use Rattle.std.proofs.Common.{◌≡◌, ◌∙◌, refl, ap, Bool, true, false, not, cond, List, [], ◌∷◌, map}
 use Rattle.std.specs.Prelude.{filter}
 use Rattle.std.specs.List.{AllByRecursion}
 use Rattle.spec_names.specs.Distinct.{distinct_by}

@@ -1,17 +1,15 @@
 -- The parts of constraints that are read are no more than the expressions that are counted while they are read.
-use Rattle.std.proofs.Common.{◌≡◌, ◌∙◌, sym, ap, refl, ℕ, ◌+◌, ◌≤◌, Bool, true, false, cond, nat_le, List, [], ◌∷◌, ◌++◌, length, map, Option, Some, None, unwrap_or, Result, Ok, Err, Ordering, Less, Equal, Greater, codes, arith}
-use Rattle.std.specs.Prelude.{⊤, ◌&&◌, IfSome, option_map, option_and_then, sum_by, flat_map, nat_lt, bytes_eq}
-use Rattle.std.specs.List.{list_any}
+use Rattle.std.proofs.Common.{◌≡◌, ◌∙◌, sym, ap, refl, ℕ, ◌+◌, ◌≤◌, Bool, true, false, cond, List, [], ◌∷◌, length, map, Option, Some, None, unwrap_or, codes, arith}
+use Rattle.std.specs.Prelude.{⊤, ◌&&◌, IfSome, option_map, option_and_then, sum_by, flat_map, nat_lt}
 use Rattle.std.proofs.lemmas.List.Sums.{sum_by-append, sum_by-cons}
-use Rattle.std.specs.Ordering.{nat_cmp, match_ordering}
-use Rattle.std.specs.Cmp.Lexicographic.{slice_cmp}
-use Rattle.serde_json.specs.Data.{Data, null, boolean, number, string, array, object, Items, no_items, item, Members, no_members, member}
-use Rattle.spec_walk.specs.Pointer.{under, element}
-use Rattle.spec_walk.specs.Event.{ANode, ALeaf, AnAlias, AnExpression, TooMany, Fault, Event, Name, OneMore, Wrong}
-use Rattle.spec_walk.specs.Limits.{Counts, after, ◌>>=◌, name_limit, from_held}
-use Rattle.spec_walk.specs.Walk.{Walk, Done, Stop, Meet, ◌>>>◌, gives}
-use Rattle.spec_walk.specs.Spot.{Spot, spot, root, is_object, an_object, needed, unless, kind, member_at, if_there, optional, elements, each, named}
-use Rattle.spec_walk.specs.Descend.{Inside, descend, part, parts, optional_parts}
+use Rattle.serde_json.specs.Data.{Data}
+use Rattle.spec_walk.specs.Event.{AnExpression, TooMany, Event}
+use Rattle.spec_walk.specs.Limits.{from_held}
+use Rattle.spec_walk.specs.Walk.{Walk, Done, ◌>>>◌}
+use Rattle.spec_walk.specs.Spot.{Spot, root, is_object, an_object, needed, unless, kind, optional, elements, each, named}
+use Rattle.spec_walk.specs.Descend.{Inside}
+use Rattle.spec_walk.proofs.FirstFaultLaws.{answers-gives}
+use Rattle.spec_walk.proofs.CountLaws.{cost, Covers, if_any, covers-gives, covers-then, covers-next, more-before, covers-each, covers-optional, ReaderCovers, covers-elements, unwrapped}
 use Rattle.spec_expressions.specs.Expression.{Expr, ExprOf, Not, Binary, Call, Set, Join, Slice, with_names, exprs_of, function_named, op_named}
 use Rattle.spec_expressions.specs.Expression as e
 use Rattle.serde_json.specs.Find.{get, as_bool, as_number, as_i64}
@@ -27,72 +25,9 @@ use Rattle.spec_features.specs.Theory.{parts_by}
 use Rattle.spec_features.specs.Walk.{constraints, constraints_of, Constrained, param_name, param, features}
 use Rattle.spec_features.specs.Laws.{PartsAreCounted}
 
--- how many expressions an event counts
-abbrev cost : Event → ℕ
-cost (Name at s) = 0
-cost (OneMore ANode at) = 0
-cost (OneMore ALeaf at) = 0
-cost (OneMore AnAlias at) = 0
-cost (OneMore AnExpression at) = 1
-cost (Wrong f) = 0
-
-abbrev expressions_in : Result Counts Fault → ℕ
-expressions_in (Ok c) = c.expressions
-expressions_in (Err f) = 0
-
-limited : (b : Bool) (f : Fault) (next c : Counts) → cond b (Err f) (Ok next) ≡ Ok c → c.expressions ≡ next.expressions
-limited true f next c e = absurd cc
-limited false f next c e = sym (ap expressions_in e)
-
-named_cost : (b full : Bool) (f : Fault) (c next d : Counts) → next.expressions ≡ c.expressions → cond b (Ok c) (cond full (Err f) (Ok next)) ≡ Ok d → d.expressions ≡ c.expressions
-named_cost true full f c next d same e = sym (ap expressions_in e)
-named_cost false full f c next d same e = limited full f next d e ∙ same
-
-cost_is : (m : Event) (c d : Counts) → after m c ≡ Ok d → d.expressions ≡ c.expressions + cost m
-cost_is (Name at s) c d e = named_cost (list_any (λ held. bytes_eq held s) c.held) (nat_le name_limit (length c.held)) _ c _ d refl e ∙ omega arith
-cost_is (OneMore ANode at) c d e = limited _ _ _ d e ∙ omega arith
-cost_is (OneMore ALeaf at) c d e = limited _ _ _ d e ∙ omega arith
-cost_is (OneMore AnAlias at) c d e = limited _ _ _ d e ∙ omega arith
-cost_is (OneMore AnExpression at) c d e = limited _ _ _ d e
-cost_is (Wrong f) c d e = absurd cc
-
--- with those that were counted before, the expressions that a walk counts are as many as its value needs
-abbrev Covers : {A : Type 0} → (A → ℕ) → ℕ → Walk A → Type 0
-Covers f n (Done x) = f x ≤ n
-Covers f n (Stop w) = ⊤
-Covers f n (Meet m w) = Covers f (n + cost m) w
-
-abbrev value_or : {A : Type 0} → A → Result (A × Counts) Fault → A
-value_or y (Ok p) = p.0
-value_or y (Err f) = y
-
-abbrev counted_in : {A : Type 0} → Result (A × Counts) Fault → ℕ
-counted_in (Ok p) = p.1.expressions
-counted_in (Err f) = 0
-
-covers-gives : {A : Type 0} (f : A → ℕ) (n : ℕ) (w : Walk A) (c d : Counts) (x : A) → Covers f n w → gives w c ≡ Ok (x, d) → f x + c.expressions ≤ n + d.expressions
-covers-gives f n (Done y) c d x h e = omega (arith, h, ap f (ap (value_or y) e), ap counted_in e)
-covers-gives f n (Stop w) c d x h e = absurd cc
-covers-gives {A} f n (Meet m w) c d x h e = go (after m c) (λ k is. cost_is m c k is) (λ k g. covers-gives f (n + cost m) w k d x h g) e
-  where
-    go : (r : Result Counts Fault) → ((k : Counts) → r ≡ Ok k → k.expressions ≡ c.expressions + cost m) → ((k : Counts) → gives w k ≡ Ok (x, d) → f x + k.expressions ≤ n + cost m + d.expressions)
-        → r >>= gives w ≡ Ok (x, d) → f x + c.expressions ≤ n + d.expressions
-    go (Ok k) costs later g = omega (arith, later k g, costs k refl)
-    go (Err s) costs later g = absurd cc
-
-covers-then : {A B : Type 0} (f : A → ℕ) (g : B → ℕ) (n : ℕ) (w : Walk A) (next : A → Walk B) → Covers f n w → ((x : A) (k : ℕ) → f x ≤ k → Covers g k (next x)) → Covers g n (w >>> next)
-covers-then f g n (Done x) next h later = later x n h
-covers-then f g n (Stop s) next h later = tt
-covers-then f g n (Meet m w) next h later = covers-then f g (n + cost m) w next h later
-
--- what was counted before is not lost
-covers-any : {A : Type 0} (m n : ℕ) (w : Walk A) → m ≤ n → Covers (λ _. m) n w
-covers-any m n (Done x) le = le
-covers-any m n (Stop s) le = tt
-covers-any m n (Meet s w) le = covers-any m (n + cost s) w (omega (arith, le))
-
-covers-next : {A B : Type 0} (g : B → ℕ) (n : ℕ) (w : Walk A) (next : A → Walk B) → ((x : A) (k : ℕ) → n ≤ k → Covers g k (next x)) → Covers g n (w >>> next)
-covers-next g n w next later = covers-then (λ _. n) g n w next (covers-any n n w (omega arith)) later
+-- events count expressions
+abbrev price : Event → ℕ
+price = cost AnExpression
 
 -- ---- an expression
 
@@ -109,30 +44,30 @@ abbrev IsSimple : Shape → Type 0
 IsSimple (Plain x) = theory.parts x ≡ 1
 IsSimple shape = ⊤
 
-counted-covers : (here : Spot) (x : Expr) (m n : ℕ) → theory.parts x ≡ 1 → m ≤ n → Covers (beside m) n (counted here x)
+counted-covers : (here : Spot) (x : Expr) (m n : ℕ) → theory.parts x ≡ 1 → m ≤ n → Covers price (beside m) n (counted here x)
 counted-covers here x m n one le = omega (arith, one, le)
 
-formed-covers : (here : Spot) (inside : Inside Wanted Expr) (shape : Shape) (m : ℕ) → IsSimple shape → ((key : List ℕ) (n : ℕ) → Covers (beside n) n (inside.part Itself key)) → Covers (beside m) m (formed here inside shape)
+formed-covers : (here : Spot) (inside : Inside Wanted Expr) (shape : Shape) (m : ℕ) → IsSimple shape → ((key : List ℕ) (n : ℕ) → Covers price (beside n) n (inside.part Itself key)) → Covers price (beside m) m (formed here inside shape)
 formed-covers here inside (Plain x) m is cover = counted-covers here x m m is (omega arith)
 formed-covers here inside (AName s) m is cover = counted-covers here (e.Name s) m (m + 0) refl (omega arith)
 formed-covers here inside ANot m is cover =
-    covers-then (beside m) (beside m) m (inside.part Itself (codes "expr")) (λ x. counted here (Not x)) (cover (codes "expr") m) (λ x k le. omega (arith, le))
+    covers-then price (beside m) (beside m) m (inside.part Itself (codes "expr")) (λ x. counted here (Not x)) (cover (codes "expr") m) (λ x k le. omega (arith, le))
 formed-covers here inside (ABinary op) m is cover =
-    covers-then (beside m) (beside m) m (inside.part Itself (codes "left")) (λ l. inside.part Itself (codes "right") >>> λ r. counted here (Binary op l r)) (cover (codes "left") m)
-    (λ l n left. covers-then (beside n) (beside m) n (inside.part Itself (codes "right")) (λ r. counted here (Binary op l r)) (cover (codes "right") n)
+    covers-then price (beside m) (beside m) m (inside.part Itself (codes "left")) (λ l. inside.part Itself (codes "right") >>> λ r. counted here (Binary op l r)) (cover (codes "left") m)
+    (λ l n left. covers-then price (beside n) (beside m) n (inside.part Itself (codes "right")) (λ r. counted here (Binary op l r)) (cover (codes "right") n)
     (λ r k right. pair-covers (connective op) (theory.parts l) (theory.parts r) m n k left right))
 formed-covers here inside (ACall s) m is cover =
-    covers-next (beside m) m (inside.parts Itself (codes "arguments")) (λ es. function_at here (function_named s) >>> λ f. counted here (Call f (exprs_of es)))
-    (λ es n le. covers-next (beside m) n (function_at here (function_named s)) (λ f. counted here (Call f (exprs_of es))) (λ f k more. counted-covers here (Call f (exprs_of es)) m k refl (omega (arith, le, more))))
-formed-covers here inside ASet m is cover = covers-next (beside m) m (inside.parts Itself (codes "values")) (λ es. counted here (Set (exprs_of es))) (λ es k le. counted-covers here (Set (exprs_of es)) m k refl le)
-formed-covers here inside AJoin m is cover = covers-next (beside m) m (inside.parts Itself (codes "values")) (λ es. counted here (Join (exprs_of es))) (λ es k le. counted-covers here (Join (exprs_of es)) m k refl le)
+    covers-next price (beside m) m (inside.parts Itself (codes "arguments")) (λ es. function_at here (function_named s) >>> λ f. counted here (Call f (exprs_of es)))
+    (λ es n le. covers-next price (beside m) n (function_at here (function_named s)) (λ f. counted here (Call f (exprs_of es))) (λ f k more. counted-covers here (Call f (exprs_of es)) m k refl (omega (arith, le, more))))
+formed-covers here inside ASet m is cover = covers-next price (beside m) m (inside.parts Itself (codes "values")) (λ es. counted here (Set (exprs_of es))) (λ es k le. counted-covers here (Set (exprs_of es)) m k refl le)
+formed-covers here inside AJoin m is cover = covers-next price (beside m) m (inside.parts Itself (codes "values")) (λ es. counted here (Join (exprs_of es))) (λ es k le. counted-covers here (Join (exprs_of es)) m k refl le)
 formed-covers here inside AnIndex m is cover =
-    covers-next (beside m) m (inside.part Itself (codes "var")) (λ x. argument Itself inside >>> λ bit. counted here (Slice x bit bit))
-    (λ x n le. covers-next (beside m) n (argument Itself inside) (λ bit. counted here (Slice x bit bit)) (λ bit k more. counted-covers here (Slice x bit bit) m k refl (omega (arith, le, more))))
+    covers-next price (beside m) m (inside.part Itself (codes "var")) (λ x. argument Itself inside >>> λ bit. counted here (Slice x bit bit))
+    (λ x n le. covers-next price (beside m) n (argument Itself inside) (λ bit. counted here (Slice x bit bit)) (λ bit k more. counted-covers here (Slice x bit bit) m k refl (omega (arith, le, more))))
 formed-covers here inside ASlice m is cover =
-    covers-next (beside m) m (inside.part Itself (codes "var")) (λ x. argument (Its (codes "left")) inside >>> λ high. argument (Its (codes "right")) inside >>> λ low. counted here (Slice x high low))
-    (λ x n le. covers-next (beside m) n (argument (Its (codes "left")) inside) (λ high. argument (Its (codes "right")) inside >>> λ low. counted here (Slice x high low))
-    (λ high k more. covers-next (beside m) k (argument (Its (codes "right")) inside) (λ low. counted here (Slice x high low))
+    covers-next price (beside m) m (inside.part Itself (codes "var")) (λ x. argument (Its (codes "left")) inside >>> λ high. argument (Its (codes "right")) inside >>> λ low. counted here (Slice x high low))
+    (λ x n le. covers-next price (beside m) n (argument (Its (codes "left")) inside) (λ high. argument (Its (codes "right")) inside >>> λ low. counted here (Slice x high low))
+    (λ high k more. covers-next price (beside m) k (argument (Its (codes "right")) inside) (λ low. counted here (Slice x high low))
     (λ low j most. counted-covers here (Slice x high low) m j refl (omega (arith, le, more, most)))))
 
 -- ---- the shape of an object
@@ -181,28 +116,11 @@ simple-shape d =
     or_other None h = refl
     or_other (Some s) h = h
 
--- ---- down the members
-
-found-covers : (o : Ordering) {A : Type 0} (f : A → ℕ) (n : ℕ) (here rest : Walk A) → Covers f n here → Covers f n rest → Covers f n (match_ordering o rest here rest)
-found-covers Less f n here rest h r = r
-found-covers Equal f n here rest h r = h
-found-covers Greater f n here rest h r = r
-
-mutual
-  descend-covers : (at : List ℕ) (d : Data) (m : ℕ) → Covers (beside m) m (descend reader Itself at d)
-  descend-covers at (object ms) m =
-      formed-covers (spot at (object ms)) (record { part = λ f key. part reader f key at ms; parts = λ f key. parts reader f key at ms; optional_parts = λ f key. optional_parts reader f key at ms })
-      (shape_of (object ms)) m (simple-shape (object ms)) (λ key n. part-covers key at ms n)
-  descend-covers at null m = tt
-  descend-covers at (boolean b) m = tt
-  descend-covers at (number n) m = tt
-  descend-covers at (string s) m = tt
-  descend-covers at (array ds) m = tt
-
-  part-covers : (key at : List ℕ) (ms : Members) (m : ℕ) → Covers (beside m) m (part reader Itself key at ms)
-  part-covers key at no_members m = tt
-  part-covers key at (member k d ms) m =
-      found-covers (slice_cmp nat_cmp key k) (beside m) m (descend reader Itself (under at key) d) (part reader Itself key at ms) (descend-covers (under at key) d m) (part-covers key at ms m)
+reader-covers : ReaderCovers price theory.parts reader
+reader-covers Itself here inside cover m =
+    covers-next price (beside m) m (an_object here) (λ _. formed here inside (shape_of here.value))
+    (λ _ k le. more-before price theory.parts m k (formed here inside (shape_of here.value)) le (formed-covers here inside (shape_of here.value) k (simple-shape here.value) (λ key n. cover.part Itself key n)))
+reader-covers (Its key) here inside cover m = cover.part Itself key m
 
 -- ---- lists of constraints
 
@@ -212,28 +130,16 @@ all_parts es = sum_by theory.parts es
 abbrev all_beside : ℕ → List Expr → ℕ
 all_beside m es = all_parts es + m
 
-each-covers : (at : List ℕ) (before : List Expr) (ds : Items) (m n : ℕ) → all_beside m before ≤ n → Covers (all_beside m) n (each (λ (_ : List Expr). expression) at before ds)
-each-covers at before no_items m n le = le
-each-covers at before (item d ds) m n le =
-    covers-then (beside n) (all_beside m) n (descend reader Itself (element at (length before)) d) (λ x. each (λ (_ : List Expr). expression) at (before ++ x ∷ []) ds) (descend-covers (element at (length before)) d n)
-    (λ x k more. each-covers at (before ++ x ∷ []) ds m k (omega (arith, le, more, sum_by-append theory.parts before (x ∷ []), sum_by-cons theory.parts x [])))
-
 abbrev list_walk : Spot → Walk (List Expr)
 list_walk list = elements list >>> each (λ (_ : List Expr). expression) list.at []
 
-list-covers : (list : Spot) (m : ℕ) → Covers (all_beside m) m (list_walk list)
-list-covers list m = covers-next (all_beside m) m (elements list) (each (λ (_ : List Expr). expression) list.at []) (λ ds k le. each-covers list.at [] ds m k (omega (arith, le)))
+list-covers : (list : Spot) (m : ℕ) → Covers price (all_beside m) m (list_walk list)
+list-covers list m = covers-elements price theory.parts reader reader-covers Itself list m
 
-abbrev maybe_beside : ℕ → Option (List Expr) → ℕ
-maybe_beside m found = all_beside m (unwrap_or found [])
-
-constraints-covers : (here : Spot) (m : ℕ) → Covers (all_beside m) m (constraints here)
+constraints-covers : (here : Spot) (m : ℕ) → Covers price (all_beside m) m (constraints here)
 constraints-covers here m =
-    covers-then (maybe_beside m) (all_beside m) m (optional (codes "constraints") list_walk here) (λ found. Done (unwrap_or found [])) (there (member_at (codes "constraints") here)) (λ found k le. le)
-  where
-    there : (o : Option Spot) → Covers (maybe_beside m) m (if_there o list_walk)
-    there None = omega arith
-    there (Some list) = covers-then (all_beside m) (maybe_beside m) m (list_walk list) (λ x. Done (Some x)) (list-covers list m) (λ es k le. le)
+    covers-then price (λ found. if_any all_parts found + m) (all_beside m) m (optional (codes "constraints") list_walk here) (λ found. Done (unwrap_or found []))
+    (covers-optional price all_parts (codes "constraints") list_walk here m list-covers) (λ found k le. unwrapped theory.parts m k found le)
 
 -- ---- parameters
 
@@ -243,26 +149,20 @@ own_parts p = all_parts p.1
 abbrev own_beside : ℕ → Constrained → ℕ
 own_beside m p = own_parts p + m
 
-kept-covers : (k : ParamKind) (here : Spot) (m : ℕ) → Covers (all_beside m) m (constraints_of k here)
+kept-covers : (k : ParamKind) (here : Spot) (m : ℕ) → Covers price (all_beside m) m (constraints_of k here)
 kept-covers ABoolean here m = constraints-covers here m
 kept-covers AnInteger here m = omega arith
 kept-covers AnEnum here m = omega arith
 
-param-covers : (before : List Constrained) (here : Spot) (m : ℕ) → Covers (own_beside m) m (param before here)
+param-covers : (before : List Constrained) (here : Spot) (m : ℕ) → Covers price (own_beside m) m (param before here)
 param-covers before here m =
-    covers-next (own_beside m) m (kind kind_named here) _ (λ kind_is n1 le1.
-    covers-next (own_beside m) n1 (param_name before here >>> named here) _ (λ name n2 le2.
-    covers-next (own_beside m) n2 (unless (nat_lt (length before) param_limit) here TooMany) _ (λ _ n3 le3.
-    covers-then (all_beside n3) (own_beside m) n3 (constraints_of kind_is here) _ (kept-covers kind_is here n3) (λ es n4 le4. omega (arith, le1, le2, le3, le4)))))
+    covers-next price (own_beside m) m (kind kind_named here) _ (λ kind_is n1 le1.
+    covers-next price (own_beside m) n1 (param_name before here >>> named here) _ (λ name n2 le2.
+    covers-next price (own_beside m) n2 (unless (nat_lt (length before) param_limit) here TooMany) _ (λ _ n3 le3.
+    covers-then price (all_beside n3) (own_beside m) n3 (constraints_of kind_is here) _ (kept-covers kind_is here n3) (λ es n4 le4. omega (arith, le1, le2, le3, le4)))))
 
 abbrev params_beside : ℕ → List Constrained → ℕ
 params_beside m found = sum_by own_parts found + m
-
-params-covers : (at : List ℕ) (before : List Constrained) (ds : Items) (m n : ℕ) → params_beside m before ≤ n → Covers (params_beside m) n (each param at before ds)
-params-covers at before no_items m n le = le
-params-covers at before (item d ds) m n le =
-    covers-then (own_beside n) (params_beside m) n (param before (spot (element at (length before)) d)) (λ x. each param at (before ++ x ∷ []) ds) (param-covers before (spot (element at (length before)) d) n)
-    (λ x k more. params-covers at (before ++ x ∷ []) ds m k (omega (arith, le, more, sum_by-append own_parts before (x ∷ []), sum_by-cons own_parts x [])))
 
 sum-flat : (found : List Constrained) → sum_by theory.parts (flat_map (λ (p : Constrained). p.1) found) ≡ sum_by own_parts found
 sum-flat [] = refl
@@ -271,17 +171,17 @@ sum-flat (p ∷ found) = omega (arith, sum-flat found, sum_by-cons own_parts p f
 abbrev constraint_parts : Features → ℕ
 constraint_parts f = all_parts f.constraints
 
-features-covers : (here : Spot) → Covers constraint_parts 0 (features here)
+features-covers : (here : Spot) → Covers price constraint_parts 0 (features here)
 features-covers here =
-    covers-next constraint_parts 0 (an_object here) _ (λ _ n1 le1.
-    covers-next constraint_parts n1 (needed (codes "parameters") here) _ (λ list n2 le2.
-    covers-then (params_beside n2) constraint_parts n2 (elements list >>> each param list.at []) _
-    (covers-next (params_beside n2) n2 (elements list) (each param list.at []) (λ ds k le. params-covers list.at [] ds n2 k (omega (arith, le)))) (λ found n3 le3.
-    covers-then (all_beside n3) constraint_parts n3 (constraints here) _ (constraints-covers here n3)
+    covers-next price constraint_parts 0 (an_object here) _ (λ _ n1 le1.
+    covers-next price constraint_parts n1 (needed (codes "parameters") here) _ (λ list n2 le2.
+    covers-then price (params_beside n2) constraint_parts n2 (elements list >>> each param list.at []) _
+    (covers-next price (params_beside n2) n2 (elements list) (each param list.at []) (λ ds k le. covers-each price own_parts param list.at [] ds n2 k param-covers (omega (arith, le)))) (λ found n3 le3.
+    covers-then price (all_beside n3) constraint_parts n3 (constraints here) _ (constraints-covers here n3)
     (λ own n4 le4. omega (arith, le3, le4, sum-flat found, sum_by-append theory.parts (flat_map (λ (p : Constrained). p.1) found) own)))))
 
 pub parts_are_counted : PartsAreCounted
-parts_are_counted held d f c is = omega (arith, covers-gives constraint_parts 0 (features (root d)) (from_held held) c f (features-covers (root d)) is)
+parts_are_counted held d f c is = omega (arith, covers-gives AnExpression constraint_parts 0 (features (root d)) (from_held held) c f (features-covers (root d)) (sym (answers-gives (features (root d)) (from_held held)) ∙ is))
 
 -- ---- parts of constraints, whatever names are
 

@@ -1,12 +1,15 @@
--- What clauses have to do with the configurations that fit.
+-- What the definitions come to: of documents, of facts, and of clauses with the configurations that fit.
 use Rattle.std.specs.Prelude.{◌≡◌, ◌↔◌, ℕ, Some, None, ◌≤◌, Bool, true, List, length, ◌++◌, take, sum_by, Ok, bytes_eq}
 use Rattle.serde_json.specs.Data.{Data}
-use Rattle.spec_walk.specs.Limits.{Counts}
+use Rattle.spec_walk.specs.Limits.{Counts, from_held, ◌>>=◌, judged}
+use Rattle.spec_walk.specs.Walk.{events}
+use Rattle.spec_walk.specs.Spot.{root}
 use Rattle.spec_refutation.specs.Literals.{satisfies}
 use Rattle.spec_refutation.specs.First.{assignment, IsFirst}
 use Rattle.spec_expressions.specs.Expression.{Expr}
 use Rattle.spec_features.specs.Fact.{same_fact, no_other}
 use Rattle.spec_features.specs.Features.{FeaturesOf, Features}
+use Rattle.spec_features.specs.Walk.{features}
 use Rattle.spec_features.specs.Reading.{features_read}
 use Rattle.spec_features.specs.Theory.{TheoryOf, theory, states, parts}
 use Rattle.spec_features.specs.Fits.{PinOf, Fits, IsFirstFitting}
@@ -40,6 +43,10 @@ pub record FirstsAgree {N : Type 0} (same : N → N → Bool) (f : FeaturesOf N)
 
 abbrev pub FirstsAreFirst : Type 0
 FirstsAreFirst = (f : Features) (pins : List (PinOf (List ℕ))) → FirstsAgree bytes_eq f pins
+
+-- the events of the walk over a document, judged one after the other, end in the same counts or the same first fault
+abbrev pub FirstFaultDecides : Type 0
+FirstFaultDecides = (held : List (List ℕ)) (d : Data) → judged (events (features (root d))) (from_held held) ≡ (features_read held d >>= λ read. Ok read.1)
 
 -- the connectives and parts under connectives of what a document gives are no more than the expressions that are counted while it is read
 abbrev pub PartsAreCounted : Type 0

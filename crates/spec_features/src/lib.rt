@@ -2,7 +2,7 @@
 //! `specs/`, and laws about them.
 #![tactic(auto)]
 
-ghost use Rattle.spec_features.specs.Laws.{EachExtends, FactsAreEqual, FirstsAreFirst, FirstsAreFound, PartsAreCounted};
+ghost use Rattle.spec_features.specs.Laws.{EachExtends, FactsAreEqual, FirstFaultDecides, FirstsAreFirst, FirstsAreFound, PartsAreCounted};
 
 /// A law on atoms: two expressions state one fact exactly where they are equal and no Other stands in them.
 pub fn facts_are_equal()
@@ -19,6 +19,11 @@ pub fn each_configuration_extends()
 /// fits, extended, is their first solution.
 pub fn firsts_are_first()
     ensures { FirstsAreFirst }
+{}
+
+/// A law on the walk over a document: what decides is the first of its events that is a fault or passes a limit.
+pub fn first_fault_decides()
+    ensures { FirstFaultDecides }
 {}
 
 /// A law on documents: the connectives and other parts of the constraints that are read are together no more than the

@@ -1,11 +1,13 @@
 pub mod Worked
 pub mod WorkedPaths
 pub mod WorkedAliases
+pub mod OwnLaws
 pub mod ShapeLaws
 pub mod MergedLaws
 pub mod VisibleLaws
 pub mod LabelLaws
 pub mod AliasLaws
 pub mod NamedCounts
+pub mod KindCounts
 pub mod LeafCounts
 pub mod SoundPathLaws

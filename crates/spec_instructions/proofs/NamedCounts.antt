@@ -1,24 +1,25 @@
 -- No node of the tree of an accepted document has more named items on its path than may be.
-use Rattle.std.proofs.Common.{◌≡◌, ◌∙◌, refl, ℕ, ◌+◌, ◌≤◌, Bool, true, false, cond, List, [], ◌∷◌, ◌++◌, length, Option, Some, None, unwrap_or, Ok, codes, arith}
-use Rattle.std.specs.Prelude.{⊤, ◌==◌, ◌^◌, IfSome, is_some, option_to_list, nat_le, nat_lt}
+use Rattle.std.proofs.Common.{◌≡◌, ◌∙◌, refl, ℕ, ◌+◌, ◌≤◌, Bool, true, false, cond, List, [], ◌∷◌, ◌++◌, length, Option, Some, None, Ok, codes, arith}
+use Rattle.std.specs.Prelude.{⊤, IfSome, is_some, option_to_list, nat_le, nat_lt}
 use Rattle.std.specs.List.{AllByRecursion}
 use Rattle.std.proofs.lemmas.Bool.{and_parts, leb-true}
 use Rattle.std.proofs.lemmas.List.Sums.{sum_by-append, sum_by-cons}
 use Rattle.serde_json.specs.Data.{Items, no_items, item as one}
 use Rattle.spec_bits.specs.Item.{Item}
 use Rattle.spec_walk.specs.Pointer.{element}
-use Rattle.spec_walk.specs.Event.{WrongShape, NoSet, TooMany}
+use Rattle.spec_walk.specs.Event.{NoSet, TooMany}
 use Rattle.spec_walk.specs.Limits.{Counts}
 use Rattle.spec_walk.specs.Walk.{Walk, Done, Stop, Meet, ◌>>>◌, gives}
-use Rattle.spec_walk.specs.Spot.{Spot, spot, unless, needs, an_object, elements, needed, optional, kind, exactly, number_below, named, each}
+use Rattle.spec_walk.specs.Spot.{Spot, spot, unless, needs, an_object, elements, needed, optional, kind, each}
 use Rattle.spec_walk.specs.Descend.{Inside, inside_of}
-use Rattle.spec_walk.proofs.EveryLaws.{Every, every-gives, every-then, every-next, every-unless, every-optional, every-each, EveryInside, every-inside}
+use Rattle.spec_walk.proofs.EveryLaws.{Every, every-any, every-gives, every-then, every-next, every-unless, every-each, EveryInside, every-inside}
 use Rattle.spec_expressions.specs.Reading.{expression}
 use Rattle.spec_instructions.specs.Limits.{named_limit}
 use Rattle.spec_instructions.specs.Kind.{Kind, Set, Group, Leaf, Alias, Instance, kinds_in, kind_named}
 use Rattle.spec_instructions.specs.Encodeset.{item_kind_named, item_parts, named_in, within_limits, item, encodeset}
 use Rattle.spec_instructions.specs.Tree.{Node, node, Nodes, no_nodes, more}
-use Rattle.spec_instructions.specs.Walk.{node_name, counted, own, Above, nodes_of, node_of, alias_of, child_of, child, chosen_in, is_chosen, set_of, set, instructions}
+use Rattle.spec_instructions.proofs.OwnLaws.{encodeset-every, own-every}
+use Rattle.spec_instructions.specs.Walk.{node_name, own, Above, nodes_of, node_of, alias_of, child_of, child, chosen_in, is_chosen, set_of, set, instructions}
 
 -- ---- named items of a node
 
@@ -54,23 +55,11 @@ module _ (above : ℕ) where
 
   items_fit : (here : Spot) → above ≤ named_limit → Every Fits (encodeset above here)
   items_fit here le =
-      every-next _ (exactly (codes "Instruction.Encodeset.Encodeset") here) _ (λ _.
-      every-next _ (needed (codes "width") here) _ (λ place.
-      every-next _ (number_below (2 ^ 32) place) _ (λ width.
-      every-next _ (unless (width == 32) place WrongShape) _ (λ _.
-      every-next _ (needed (codes "values") here) _ (λ list.
-      every-next _ (elements list) _ (λ ds. each_fits list.at [] ds (omega (arith, le))))))))
+      encodeset-every Fits above here (λ list ds. each_fits list.at [] ds (omega (arith, le)))
 
   own_fits : (k : Kind) (here : Spot) → above ≤ named_limit → Every (λ o. Fits o.items) (own k above here)
   own_fits k here le =
-      every-next _ (node_name here >>> named here) _ (λ name.
-      every-next _ (counted k here) _ (λ _.
-      every-then (λ o. IfSome o Fits) (λ o. Fits o.items) (optional (codes "encoding") (encodeset above) here) _ (every-optional Fits (codes "encoding") (encodeset above) here (λ inner. items_fit inner le)) (λ items fits.
-      every-next _ (optional (codes "condition") expression here) _ (λ _. unwrapped items fits))))
-    where
-      unwrapped : (items : Option (List Item)) → IfSome items Fits → Fits (unwrap_or items [])
-      unwrapped None h = omega (arith, le)
-      unwrapped (Some xs) h = h
+      own-every (λ _. ⊤) Fits (λ o. Fits o.items) k above here (every-any (node_name here)) (omega (arith, le)) (λ inner. items_fit inner le) (λ name items condition _ fits. fits)
 
 -- ---- nodes below nodes
 

@@ -7,18 +7,19 @@ use Rattle.std.proofs.lemmas.List.{length-map}
 use Rattle.spec_bits.specs.Pattern.{Digit}
 use Rattle.spec_bits.specs.PatternText.{PatternRefusal, pattern_in}
 use Rattle.spec_bits.specs.Item.{Item}
-use Rattle.spec_walk.specs.Event.{BadName, BadRange, Doubled, WrongShape, NoSet, UnlistedKind, TooMany}
+use Rattle.spec_walk.specs.Event.{BadName, BadRange, Doubled, NoSet, UnlistedKind, TooMany}
 use Rattle.spec_walk.specs.Limits.{Counts}
 use Rattle.spec_walk.specs.Walk.{Walk, Done, ◌>>>◌, gives}
 use Rattle.spec_walk.specs.Spot.{Spot, unless, needs, an_object, elements, text, needed, optional, kind, kind_text, exactly, number_below, named, each}
 use Rattle.spec_walk.specs.Descend.{Inside, inside_of}
-use Rattle.spec_walk.proofs.EveryLaws.{Every, every-gives, every-then, every-next, every-unless, every-optional, every-each, EveryInside, every-inside}
+use Rattle.spec_walk.proofs.EveryLaws.{Every, every-gives, every-then, every-next, every-unless, every-each, EveryInside, every-inside}
 use Rattle.spec_expressions.specs.Reading.{expression}
 use Rattle.spec_instructions.specs.Name.{is_name}
 use Rattle.spec_instructions.specs.Kind.{Kind, Set, Group, Leaf, Alias, Instance, kinds_in, kind_named}
 use Rattle.spec_instructions.specs.Encodeset.{ItemKind, Bits, Field, ShouldBeBits, item_kind_named, is_range, range, pattern, value, is_binary, marked_by, masked, should_be, is_field_name, names_of, field_name, item_parts, named_in, within_limits, item, encodeset}
 use Rattle.spec_instructions.specs.Tree.{Own, Node}
-use Rattle.spec_instructions.specs.Walk.{node_name, counted, own, Above, nodes_of, node_of, alias_of, child_of, child, chosen_in, is_chosen, set_of, set, instructions}
+use Rattle.spec_instructions.proofs.OwnLaws.{encodeset-every, own-every}
+use Rattle.spec_instructions.specs.Walk.{node_name, own, Above, nodes_of, node_of, alias_of, child_of, child, chosen_in, is_chosen, set_of, set, instructions}
 use Rattle.spec_instructions.specs.Shape.{IsAmong, MayStand, node_kind, IsShaped, AreShaped, IsSoundItem, IsSoundOwn, IsSound, AreSound, IsSetTree}
 
 -- ---- what is found is one of those among which it was looked for
@@ -121,13 +122,8 @@ item_is above earlier here =
 
 items_are : (above : ℕ) (here : Spot) → Every (AllByRecursion IsSoundItem) (encodeset above here)
 items_are above here =
-    every-next _ (exactly (codes "Instruction.Encodeset.Encodeset") here) _ (λ _.
-    every-next _ (needed (codes "width") here) _ (λ place.
-    every-next _ (number_below (2 ^ 32) place) _ (λ width.
-    every-next _ (unless (width == 32) place WrongShape) _ (λ _.
-    every-next _ (needed (codes "values") here) _ (λ list.
-    every-next _ (elements list) _ (λ ds.
-    every-each IsSoundItem (λ earlier. item (above + named_in earlier) earlier) list.at [] ds (λ earlier inner _. item_is (above + named_in earlier) earlier inner) tt))))))
+    encodeset-every (AllByRecursion IsSoundItem) above here
+    (λ list ds. every-each IsSoundItem (λ earlier. item (above + named_in earlier) earlier) list.at [] ds (λ earlier inner _. item_is (above + named_in earlier) earlier inner) tt)
 
 -- ---- what a node says of itself
 
@@ -136,20 +132,13 @@ IsOwn k o = (o.kind ≡ k) × IsSoundOwn o
 
 own_is : (k : Kind) (above : ℕ) (here : Spot) → Every (IsOwn k) (own k above here)
 own_is k above here =
-    every-then (λ s. is_name s ≡ true) (IsOwn k) (node_name here >>> named here) _ (every-then (λ s. is_name s ≡ true) (λ s. is_name s ≡ true) (node_name here) (named here) (name_is here) (λ s is. is)) (λ name is.
-    every-next (IsOwn k) (counted k here) _ (λ _.
-    every-then (λ o. IfSome o (AllByRecursion IsSoundItem)) (IsOwn k) (optional (codes "encoding") (encodeset above) here) _ (every-optional (AllByRecursion IsSoundItem) (codes "encoding") (encodeset above) here (items_are above)) (λ items fields.
-    every-next (IsOwn k) (optional (codes "condition") expression here) _ (λ _. (refl, record { name = is; items = unwrapped items fields })))))
+    own-every (λ s. is_name s ≡ true) (AllByRecursion IsSoundItem) (IsOwn k) k above here (name_is here) tt (items_are above) (λ name items condition is fields. (refl, record { name = is; items = fields }))
   where
     name_is : (here : Spot) → Every (λ s. is_name s ≡ true) (node_name here)
     name_is here =
         every-next _ (needed (codes "name") here) _ (λ place.
         every-next _ (text place) _ (λ s.
         every-then (λ _. is_name s ≡ true) _ (unless (is_name s) place BadName) _ (every-unless (is_name s) place BadName) (λ _ is. is)))
-
-    unwrapped : (items : Option (List Item)) → IfSome items (AllByRecursion IsSoundItem) → AllByRecursion IsSoundItem (unwrap_or items [])
-    unwrapped None h = tt
-    unwrapped (Some xs) h = h
 
 -- ---- nodes below nodes
 

@@ -10,6 +10,9 @@ use Rattle.spec_instructions.specs.Encodeset.{named_in}
 use Rattle.spec_instructions.specs.Tree.{Own, Node, node, Nodes, no_nodes, more}
 use Rattle.spec_instructions.specs.Shape.{IsSoundItem, IsSound, AreSound}
 use Rattle.spec_instructions.specs.Paths.{paths_at, paths_from, paths_among, path_name, path_items}
+use Rattle.spec_walk.specs.Walk.{gives}
+use Rattle.spec_walk.proofs.FirstFaultLaws.{answers-gives}
+use Rattle.spec_instructions.specs.Walk.{instructions}
 use Rattle.spec_instructions.specs.Reading.{tree_read}
 use Rattle.spec_instructions.specs.SoundPaths.{IsSoundPath, AreSoundPaths, PathsAreSound}
 use Rattle.spec_instructions.proofs.ShapeLaws.{read_shaped}
@@ -58,7 +61,8 @@ paths_are_sound isa held d paths e = go (tree_read isa held d) refl e
     go (Err f) is e = absurd cc
     go (Ok read) is e =
         let same : paths_from [] read.0 ≡ paths = cc in
+        let walked : gives (instructions isa (root d)) (from_held held) ≡ Ok read = sym (answers-gives (instructions isa (root d)) (from_held held)) ∙ is in
         subst AreSoundPaths same (record {
-          few = read_leaves isa (root d) (from_held held) read.1 read.0 refl is;
-          each = sound_from [] read.0 (All-nil IsSoundItem) (read_shaped isa (root d) (from_held held) read.1 read.0 is).sound (read_few isa (root d) (from_held held) read.1 read.0 is);
+          few = read_leaves isa (root d) (from_held held) read.1 read.0 refl walked;
+          each = sound_from [] read.0 (All-nil IsSoundItem) (read_shaped isa (root d) (from_held held) read.1 read.0 walked).sound (read_few isa (root d) (from_held held) read.1 read.0 walked);
         })

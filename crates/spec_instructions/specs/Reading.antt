@@ -3,7 +3,8 @@ use Rattle.std.specs.Prelude.{◌≡◌, ℕ, List, [], Result, Ok}
 use Rattle.serde_json.specs.Data.{Data}
 use Rattle.spec_walk.specs.Event.{Fault}
 use Rattle.spec_walk.specs.Limits.{Counts, from_held, ◌>>=◌, judged}
-use Rattle.spec_walk.specs.Walk.{events, gives}
+use Rattle.spec_walk.specs.Walk.{events}
+use Rattle.spec_walk.specs.FirstFault.{answers}
 use Rattle.spec_walk.specs.Spot.{root}
 use Rattle.spec_instructions.specs.Tree.{Own, Node}
 use Rattle.spec_instructions.specs.Walk.{instructions}
@@ -11,9 +12,9 @@ use Rattle.spec_instructions.specs.Shape.{IsSetTree}
 use Rattle.spec_instructions.specs.Paths.{paths_from}
 use Rattle.spec_instructions.specs.Aliases.{AliasPath, aliases_in}
 
--- the tree of the set of that name with the counts behind the walk, where it meets no fault and passes no limit; `held` are the texts that have a number before it
+-- the tree of the set of that name with what is held and counted by then, or the first fault; `held` are the texts that have a number before it
 abbrev pub tree_read : List ℕ → List (List ℕ) → Data → Result (Node × Counts) Fault
-tree_read isa held d = gives (instructions isa (root d)) (from_held held)
+tree_read isa held d = answers (instructions isa (root d)) (from_held held)
 
 -- the paths to the leaves of that tree, leaf number k being the k-th, from 0
 abbrev pub paths_read : List ℕ → List (List ℕ) → Data → Result (List (List Own)) Fault

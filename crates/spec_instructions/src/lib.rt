@@ -6,6 +6,6 @@
 mod laws;
 
 pub use laws::{
-    aliases_are_those_of_leaves, fields_are_visible, labels_tell_leaves, merged_is_exact,
-    paths_are_sound,
+    aliases_are_those_of_leaves, fields_are_visible, first_fault_decides, labels_tell_leaves,
+    merged_is_exact, paths_are_sound, trees_are_sound,
 };

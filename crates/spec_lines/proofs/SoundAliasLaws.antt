@@ -3,7 +3,9 @@ use Rattle.std.proofs.Common.{◌≡◌, ◌∙◌, sym, ap, refl, subst, ℕ, �
 use Rattle.std.proofs.lemmas.List.Elements.{All-from_recursion, All-nil, All-cons, All-append, All-map}
 use Rattle.spec_walk.specs.Limits.{from_held}
 use Rattle.spec_walk.specs.Spot.{root}
+use Rattle.spec_walk.proofs.FirstFaultLaws.{answers-gives}
 use Rattle.spec_instructions.specs.Name.{is_name}
+use Rattle.spec_instructions.specs.Walk.{instructions}
 use Rattle.spec_instructions.specs.Kind.{Kind, Set, Group, Leaf, Alias, Instance}
 use Rattle.spec_instructions.specs.Encodeset.{named_in}
 use Rattle.spec_instructions.specs.Tree.{Own, Node, node, Nodes, no_nodes, more}
@@ -85,7 +87,7 @@ mutual
 
 pub aliases_are_sound : AliasesAreSound
 aliases_are_sound isa held d tree counts e = record {
-  few = read_aliases isa (root d) (from_held held) counts tree refl e;
-  each = All-map IsSoundPath alias_path (aliases_in tree) (sound_from [] 0 tree (All-nil IsSoundItem) (read_shaped isa (root d) (from_held held) counts tree e).sound (read_few isa (root d) (from_held held) counts tree e));
+  few = read_aliases isa (root d) (from_held held) counts tree refl (sym (answers-gives (instructions isa (root d)) (from_held held)) ∙ e);
+  each = All-map IsSoundPath alias_path (aliases_in tree) (sound_from [] 0 tree (All-nil IsSoundItem) (read_shaped isa (root d) (from_held held) counts tree (sym (answers-gives (instructions isa (root d)) (from_held held)) ∙ e)).sound (read_few isa (root d) (from_held held) counts tree (sym (answers-gives (instructions isa (root d)) (from_held held)) ∙ e)));
   below = aliases_are_below_leaves tree;
 }

@@ -9,3 +9,5 @@ pub mod RoundTrip
 pub mod UnknownPins
 pub mod First
 pub mod Settled
+pub mod ShowsLaws
+pub mod TheoremLaws

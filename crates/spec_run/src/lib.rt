@@ -7,6 +7,7 @@ ghost use Rattle.spec_run.specs.Exact.{AnswersAreExact, RunsComplete, FaultsCome
 ghost use Rattle.spec_run.specs.Fields.{OpenedFieldsTellWord};
 ghost use Rattle.spec_run.specs.First.{FirstIsInUse, NoneIsInUse, PinIsUnknown, InUseOnMachine, InUseOfDocument, RefutationsAreChecked, RefutationsAreTold};
 ghost use Rattle.spec_run.specs.RoundTrip.{BareLinesAreAssembled, ListsAreAssembled};
+ghost use Rattle.spec_run.specs.Theorem.{ListingHolds};
 
 /// A law on what statuses say: over a shelf and a source that tell their contents, every status that is neither a
 /// fault of the outside nor want of memory is that of the outcome, and exactly the outcome's bytes went out.
@@ -66,4 +67,12 @@ pub fn first_is_in_use()
 pub fn refutations_are_checked()
     ensures checked { RefutationsAreChecked }
     ensures told { RefutationsAreTold }
+{}
+
+/// The listing theorem, of each run that answers as it is to. For every accepted release, pins and words, unless memory, a read
+/// or a write fails: either the constraints' first configuration is used, and each word is listed with exactly the leaves that
+/// patterns and conditions along their paths do not exclude, a lone leaf's printed fields encoding to that word alone; or none
+/// exists, and a checked refutation is written.
+pub fn listing_holds()
+    ensures { ListingHolds }
 {}

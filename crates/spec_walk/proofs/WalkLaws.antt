@@ -3,6 +3,7 @@ use Rattle.std.proofs.Common.{◌≡◌, ◌∙◌, ap, refl, Result, Ok, Err}
 use Rattle.spec_walk.specs.Event.{Fault}
 use Rattle.spec_walk.specs.Limits.{Counts, after, ◌>>=◌, judged}
 use Rattle.spec_walk.specs.Walk.{Walk, Done, Stop, Meet, ◌>>>◌, events, gives}
+use Rattle.spec_walk.specs.FirstFault.{end_of}
 
 bind-same : {A B C : Type 0} (r : Result A Fault) (f : A → Result B Fault) (g : B → Result C Fault) (h : A → Result C Fault) → ((x : A) → h x ≡ f x >>= g) → r >>= h ≡ r >>= f >>= g
 bind-same (Ok x) f g h is = is x
@@ -33,21 +34,8 @@ then-assoc (Done x) f g = refl
 then-assoc (Stop e) f g = refl
 then-assoc (Meet e w) f g = ap (λ v. Meet e v) (then-assoc w f g)
 
--- ---- walks by their events
-
 -- what stands behind the events
-abbrev pub ended : {A : Type 0} → Walk A → Counts → Result (A × Counts) Fault
-ended (Done x) c = Ok (x, c)
-ended (Stop f) c = Err f
-ended (Meet e w) c = ended w c
-
-pub gives-judged : {A : Type 0} (w : Walk A) (c : Counts) → gives w c ≡ judged (events w) c >>= ended w
+pub gives-judged : {A : Type 0} (w : Walk A) (c : Counts) → gives w c ≡ judged (events w) c >>= end_of w
 gives-judged (Done x) c = refl
 gives-judged (Stop f) c = refl
-gives-judged (Meet e w) c = bind-same (after e c) (judged (events w)) (ended w) (gives w) (gives-judged w)
-
-pub gives-passes : {A : Type 0} (w : Walk A) (x : A) (c d : Counts) → judged (events w) c ≡ Ok d → ended w d ≡ Ok (x, d) → gives w c ≡ Ok (x, d)
-gives-passes w x c d passed done = gives-judged w c ∙ ap (λ r. r >>= ended w) passed ∙ done
-
-pub gives-faults : {A : Type 0} (w : Walk A) (f : Fault) (c : Counts) → judged (events w) c ≡ Err f → gives w c ≡ Err f
-gives-faults w f c faults = gives-judged w c ∙ ap (λ r. r >>= ended w) faults
+gives-judged (Meet e w) c = bind-same (after e c) (judged (events w)) (end_of w) (gives w) (gives-judged w)

@@ -1,27 +1,14 @@
-use Rattle.std.proofs.Common.{ap, sym, subst, length, ◌∷◌, [], arith, ℕ, List, Option}
-use Rattle.std.proofs.lemmas.List.{length-append}
-use Rattle.expr_classes.specs.Classes.{Numbered, AreClasses, AllStand, Stands}
-use Rattle.mrs_arena.specs.Expressions.{expr_at}
-use Rattle.expr_classes.proofs.Final.{are_classes, all_more, class_within}
+use Rattle.std.proofs.Common.{sym, subst, arith}
+use Rattle.expr_classes.specs.Classes.{Numbered, AreClasses}
+use Rattle.expr_classes.proofs.Final.{are_classes, class_within}
 use Rattle.expr_classes.proofs.numbering.number.Goals as goal
-
-pub loop-e-preserved : goal.loop-e-preserved
-loop-e-preserved c =
-    let P : List (Option ℕ) → Type 0 = λ cs. AllStand c.class_of.new.table cs c.args.arena.now.exprs in
-    let Q : ℕ → Type 0 = λ n. Stands c.class_of.new.table c.in_ok-class.class (expr_at c.args.arena.now.exprs n) in
-    let old = c.loop-e.classes.items in
-    record {
-      count = omega (arith, ap length c.in_ok-push.ensures.items, length-append old (c.in_ok-class.class ∷ []), c.loop-e.invariant.count);
-      all = subst P (sym c.in_ok-push.ensures.items)
-          (all_more c.loop-e.table c.class_of.new.table old c.args.arena.now.exprs c.in_ok-class.class c.loop-e.invariant.all c.in_ok-class.ensures.grown (subst Q (sym c.loop-e.invariant.count) c.in_ok-class.ensures.stands));
-    }
 
 pub from_parts-requires : goal.from_parts-requires
 from_parts-requires c = λ k class lt is.
-    omega (arith, class_within c.loop-e.table c.loop-e.classes.items c.args.arena.now.exprs c.loop-e.invariant.all k class lt is, c.len-count.ensures.count)
+    omega (arith, class_within c.all_classes.new.table c.in_ok-classes.classes.items c.args.arena.now.exprs c.in_ok-classes.ensures.all k class lt is, c.len-count.ensures.count)
 
 pub returns-clause-same : goal.returns-clause-same
 returns-clause-same c =
     let P : Numbered → Type 0 = λ n. AreClasses c.args.arena.now.exprs n.classes in
     subst P (sym c.from_parts.ensures)
-    (are_classes c.loop-e.table c.loop-e.classes.items c.args.arena.now.exprs c.len-count.ensures.apart (omega (arith, c.loop-e.invariant.count, c.expr_count-e-end.ensures, c.loop-e-test.false, c.loop-e.auto.e-end)) c.loop-e.invariant.all)
+    (are_classes c.all_classes.new.table c.in_ok-classes.classes.items c.args.arena.now.exprs c.len-count.ensures.apart c.in_ok-classes.ensures.count c.in_ok-classes.ensures.all)

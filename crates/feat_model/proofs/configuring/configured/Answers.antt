@@ -1,4 +1,5 @@
-use Rattle.std.proofs.Common.{◌∙◌, ap, subst, arith, length, take, drop}
+use Rattle.std.proofs.Common.{◌∙◌, ap, subst, arith, length, map, take, drop}
+use Rattle.spec_expressions.specs.Scope.{Flag}
 use Rattle.feat_solve.specs.Answers.{Solves}
 use Rattle.feat_model.proofs.Outcomes.{first_reaches, first_chosen, first_fits, none_fits, refutation_written}
 use Rattle.feat_model.proofs.configuring.configured.Goals as goal
@@ -15,7 +16,7 @@ returns-in_ok-config-in-Model-clause-outcome c =
     let t = c.args.model.now in
     first_chosen t c.args.pins.now c.in_ok-cnf.cnf c.in-Model.states.items c.in_ok-config-in-Model.config c.cnf.ensures.formed c.in_ok-cnf.ensures.cnf first
     c.in_ok-config-in-Model.ensures.names
-    (c.in_ok-config-in-Model.ensures.states ∙ ap (take (length t.names)) c.deref.ensures.value)
+    (c.in_ok-config-in-Model.ensures.states ∙ ap (λ all. map Flag (take (length t.names) all)) c.deref.ensures.value)
     (c.in_ok-config-in-Model.ensures.atoms ∙ ap (λ all. take t.atoms (drop (length t.names) all)) c.deref.ensures.value)
 
 pub returns-in_ok-config-in-Model-clause-exact : goal.returns-in_ok-config-in-Model-clause-exact
@@ -24,7 +25,7 @@ returns-in_ok-config-in-Model-clause-exact c =
     let t = c.args.model.now in
     let chosen = first_chosen t c.args.pins.now c.in_ok-cnf.cnf c.in-Model.states.items c.in_ok-config-in-Model.config c.cnf.ensures.formed c.in_ok-cnf.ensures.cnf first
     c.in_ok-config-in-Model.ensures.names
-    (c.in_ok-config-in-Model.ensures.states ∙ ap (take (length t.names)) c.deref.ensures.value)
+    (c.in_ok-config-in-Model.ensures.states ∙ ap (λ all. map Flag (take (length t.names) all)) c.deref.ensures.value)
     (c.in_ok-config-in-Model.ensures.atoms ∙ ap (λ all. take t.atoms (drop (length t.names) all)) c.deref.ensures.value) in
     (λ h. absurd h, λ none. first_fits t c.args.pins.now c.in_ok-config-in-Model.config chosen none)
 

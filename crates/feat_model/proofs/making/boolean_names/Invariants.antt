@@ -1,5 +1,5 @@
 use Rattle.std.proofs.Common.{◌≡◌, ◌++◌, map, drop}
-use Rattle.mrs_schema.specs.FeatureViews.{param_of}
+use Rattle.features_reader.specs.FeatureViews.{param_of}
 use Rattle.spec_features.specs.Features.{booleans}
 use Rattle.feat_model.specs.Meets.{numbers_of, ComeFrom}
 use Rattle.feat_model.proofs.making.boolean_names.Given as goal

@@ -1,36 +1,37 @@
-use Rattle.std.proofs.Common.{◌∙◌, ap, Err, map}
-use Rattle.std.proofs.lemmas.Result.{err_from_is_err_and}
-use Rattle.mrs_arena.specs.Placed.{text_of, path_to}
-use Rattle.ast_eval.specs.Choices.{configuration_of}
-use Rattle.insn_encode.specs.Held.{answer_by, pair_by, node_at}
-use Rattle.insn_encode.proofs.EncodingLaws.{refused-is, excluded-is, word-is, exact-word}
+use Rattle.spec_instructions.specs.Tree.{Own}
+use Rattle.std.proofs.Common.{◌≡◌, ◌∙◌, ◌<◌, sym, ap, subst, ℕ, List, length, map, Ok}
+use Rattle.std.proofs.lemmas.Option.{get_or_from_slice_get}
+use Rattle.mrs_arena.specs.Flat.{FlatNode, ArenaParts}
+use Rattle.mrs_arena.specs.Placed.{path_to}
+use Rattle.insn_tree.specs.PathIds.{number, ends, end_of, path_of}
+use Rattle.insn_encode.specs.Held.{pair_by, answer_by}
+use Rattle.insn_encode.specs.Paths.{IsPath}
+use Rattle.insn_encode.proofs.PathLaws.{path_given, answer_moved, word_moved}
 use Rattle.insn_encode.proofs.path_encoding.encode_along.Goals as goal
 
-pub returns-in_err-word-clause-answer : goal.returns-in_err-word-clause-answer
-returns-in_err-word-clause-answer c = λ names hold held.
-    let p = err_from_is_err_and c.from_residual.result c.from_residual.ensures.1 in
-    ap (answer_by names) (p.1 ∙ ap Err p.2)
-    ∙ refused-is names c.args.arena.now.nodes c.args.n.0 c.args.config.now hold c.args.fields.now c.args.layout.now c.requires.path c.args.pairs.now held c.args.rest c.in_err-word.field-0.0 c.in_err-word.ensures
+pub encode_to-requires-clause-node : goal.encode_to-requires-clause-node
+encode_to-requires-clause-node c = subst (λ (ns : List FlatNode). c.path_node.result.0 < length ns) (sym (ap (λ (a : ArenaParts). a.nodes) c.arena.ensures)) c.path_node.ensures.within
 
-pub returns-in-Some-clause-answer : goal.returns-in-Some-clause-answer
-returns-in-Some-clause-answer c = λ names hold held.
-    excluded-is names c.args.arena.now.nodes c.args.n.0 c.args.config.now hold c.args.fields.now c.args.layout.now c.requires.path c.args.pairs.now held c.args.rest c.in_ok-word.word c.in-Some.node c.in_ok-word.ensures (c.in-Some.ensures names hold)
+pub encode_to-requires-clause-path : goal.encode_to-requires-clause-path
+encode_to-requires-clause-path c =
+    let nodes = c.args.tree.now.nodes in
+    let path : List (List ℕ) → List Own = λ names. path_of names c.args.tree.now c.args.p in
+    subst (λ (ns : List FlatNode). IsPath ns c.path_node.result.0 c.path_fields.result.now c.path_layout.result) (sym (ap (λ (a : ArenaParts). a.nodes) c.arena.ensures))
+    (path_given nodes c.path_node.result.0 path c.path_node.ensures.path c.path_fields.result.now c.path_layout.result c.path_fields.ensures.visible c.path_fields.ensures.within c.path_fields.ensures.held c.path_layout.ensures.numbers c.path_layout.ensures.within)
 
-pub returns-in-None-clause-answer : goal.returns-in-None-clause-answer
-returns-in-None-clause-answer c = λ names hold held.
-    word-is names c.args.arena.now.nodes c.args.n.0 c.args.config.now hold c.args.fields.now c.args.layout.now c.requires.path c.args.pairs.now held c.args.rest c.in_ok-word.word c.in_ok-word.ensures (c.in-None.ensures names hold)
+pub returns-clause-answer : goal.returns-clause-answer
+returns-clause-answer c = λ names hold held.
+    answer_moved names c.arena.result.now.nodes c.args.tree.now.nodes (ap (λ (a : ArenaParts). a.nodes) c.arena.ensures) c.path_node.result.0 (end_of c.args.tree.now.nodes c.args.p)
+    (get_or_from_slice_get (ends c.args.tree.now.nodes c.args.p) (number c.args.p) c.path_node.result.0 0 c.path_node.ensures.node) (path_of names c.args.tree.now c.args.p) (c.path_node.ensures.path names) c.args.config.now (map (pair_by names) c.args.pairs.now) c.args.rest hold
+    (answer_by names c.encode_to.result) (λ there. c.encode_to.ensures.answer names there held)
 
-pub returns-in_err-word-clause-word : goal.returns-in_err-word-clause-word
-returns-in_err-word-clause-word c = λ names hold held.
-    exact-word names (path_to names c.args.arena.now.nodes c.args.n.0) (configuration_of (text_of names) c.args.config.now) (map (pair_by names) c.args.pairs.now) c.args.rest (node_at c.args.arena.now.nodes c.args.n.0) _ (returns-in_err-word-clause-answer c names hold held)
-    (c.requires.path.items names) c.ranges.rest.fits
+pub returns-clause-word : goal.returns-clause-word
+returns-clause-word c = λ names hold held w.
+    word_moved names c.arena.result.now.nodes c.args.tree.now.nodes (ap (λ (a : ArenaParts). a.nodes) c.arena.ensures) c.path_node.result.0 (end_of c.args.tree.now.nodes c.args.p)
+    (get_or_from_slice_get (ends c.args.tree.now.nodes c.args.p) (number c.args.p) c.path_node.result.0 0 c.path_node.ensures.node) (path_of names c.args.tree.now c.args.p) (c.path_node.ensures.path names) c.args.config.now (map (pair_by names) c.args.pairs.now) c.args.rest hold
+    (c.encode_to.result ≡ Ok w) w (λ there. c.encode_to.ensures.word names there held w)
 
-pub returns-in-Some-clause-word : goal.returns-in-Some-clause-word
-returns-in-Some-clause-word c = λ names hold held.
-    exact-word names (path_to names c.args.arena.now.nodes c.args.n.0) (configuration_of (text_of names) c.args.config.now) (map (pair_by names) c.args.pairs.now) c.args.rest (node_at c.args.arena.now.nodes c.args.n.0) _ (returns-in-Some-clause-answer c names hold held)
-    (c.requires.path.items names) c.ranges.rest.fits
-
-pub returns-in-None-clause-word : goal.returns-in-None-clause-word
-returns-in-None-clause-word c = λ names hold held.
-    exact-word names (path_to names c.args.arena.now.nodes c.args.n.0) (configuration_of (text_of names) c.args.config.now) (map (pair_by names) c.args.pairs.now) c.args.rest (node_at c.args.arena.now.nodes c.args.n.0) _ (returns-in-None-clause-answer c names hold held)
-    (c.requires.path.items names) c.ranges.rest.fits
+pub returns-clause-path : goal.returns-clause-path
+returns-clause-path c names =
+    let nodes = c.args.tree.now.nodes in
+    c.path_node.ensures.path names ∙ ap (path_to names nodes) (sym (get_or_from_slice_get (ends nodes c.args.p) (number c.args.p) c.path_node.result.0 0 c.path_node.ensures.node))

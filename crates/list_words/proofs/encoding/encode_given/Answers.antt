@@ -14,7 +14,7 @@ returns-then-len-given c = λ fields told visible given.
     let tree = c.args.l.now.tree.now in
     let g = configuration_of (text_of names) c.args.l.now.config.now in
     let kept = c.args.given.now.pairs in
-    let way = way_by c.args.way in
+    let way = way_by c.args.path in
     all-encoded names fields c.args.given.now told given tree way c.encode-answer.ensures.path g visible c.encode-answer.result
     (answered-same names tree way g c.encode-answer.result c.as_slice.result.now kept c.unwrap_or-rest.result _
     (c.encode-answer.ensures.answer (held_same names c.as_slice.result.now kept c.as_slice.ensures.pairs given.held)) c.as_slice.ensures.pairs c.unwrap_or-rest.ensures)
@@ -26,7 +26,7 @@ returns c = λ fields told visible given.
     let tree = c.args.l.now.tree.now in
     let g = configuration_of (text_of names) c.args.l.now.config.now in
     let kept = c.args.given.now.pairs in
-    let way = way_by c.args.way in
+    let way = way_by c.args.path in
     let refused =
     next-encoded names fields c.args.given.now told given tree way c.encode-answer.ensures.path g visible c.encode-answer.result
     (answered-same names tree way g c.encode-answer.result c.as_slice.result.now kept c.unwrap_or-rest.result _

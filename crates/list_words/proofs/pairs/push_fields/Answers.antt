@@ -11,7 +11,7 @@ pub loop-field-init : goal.loop-field-init
 loop-field-init c =
     let names = c.args.lister.now.names.now in
     let given = c.into_iter-field-iterator.ensures.into_iter_gives in record {
-      told = ap (λ (t : List ℕ). c.args.out.now.items ++ t) (ap (flat_map (pair_at names c.args.w)) given ∙ all-pairs names c.args.w _ (way_path (machine c.args.lister.now) (way_by c.args.way)) c.shown-field-items.ensures.fields);
+      told = ap (λ (t : List ℕ). c.args.out.now.items ++ t) (ap (flat_map (pair_at names c.args.w)) given ∙ all-pairs names c.args.w _ (way_path (machine c.args.lister.now) (way_by c.args.path)) c.shown-field-items.ensures.fields);
       within = subst (All (λ (f : FlatField). f.start + f.width ≤ 32)) (sym given) c.shown-field-items.ensures.within;
       held = subst (All (λ (f : FlatField). f.name < length names)) (sym given) c.shown-field-items.ensures.held;
     }

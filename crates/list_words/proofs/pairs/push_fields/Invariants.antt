@@ -11,7 +11,7 @@ use Rattle.list_words.proofs.pairs.push_fields.Given as goal
 -- with those that are left, all shown fields are told; and those lie within the word and have names that are held
 abbrev pub invariant-loop-field : goal.invariant-loop-field
 invariant-loop-field l = record {
-  told : l.out.items ++ flat_map (pair_at l.lister.names.now l.w) l.field-iterator ≡ l.fn.out.items ++ flat_map pair_text (own_pairs (way_path (machine l.lister) (way_by l.fn.way)) l.w);
+  told : l.out.items ++ flat_map (pair_at l.lister.names.now l.w) l.field-iterator ≡ l.fn.out.items ++ flat_map pair_text (own_pairs (way_path (machine l.lister) (way_by l.fn.path)) l.w);
   within : All (λ (f : FlatField). f.start + f.width ≤ 32) l.field-iterator;
   held : All (λ (f : FlatField). f.name < length l.lister.names.now) l.field-iterator;
 }

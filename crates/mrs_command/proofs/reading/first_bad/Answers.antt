@@ -1,5 +1,5 @@
 use Rattle.std.proofs.Common.{ℕ, not, cond, length, sym, ap, ◌∙◌, arith}
-use Rattle.mrs_command.specs.Commands.{command_of}
+use Rattle.mrs_command.specs.Commands.{verb_of}
 use Rattle.mrs_command.proofs.Places.{found_here, found_later, judged_here, settings_more, pins_within, pins_more}
 use Rattle.mrs_command.proofs.reading.first_bad.Goals as goal
 use Rattle.mrs_command.proofs.reading.first_bad.Goals.{then-is_pin, else-is_pin}
@@ -26,5 +26,5 @@ loop-place-preserved c =
             | else-is_pin w ↦ omega (arith, more, c.loop-place.invariant.pins, w.pins-is, ap {B = ℕ} (λ b. cond b 1 0) w.if-is_pin.false)
           ];
       rest = found_later _ c.loop-place.place (length c.args.words.now) (omega arith) good ∙ c.loop-place.invariant.rest;
-      settings = settings_more (command_of c.args.verb).asks.keys c.args.words.now c.loop-place.place _ _ (omega arith) c.index-words-place.is c.as_str-word.ensures.value c.loop-place.invariant.settings (sym c.is_good.ensures ∙ c.if-not-is_good.false);
+      settings = settings_more (verb_of c.args.verb).asks.keys c.args.words.now c.loop-place.place _ _ (omega arith) c.index-words-place.is c.as_str-word.ensures.value c.loop-place.invariant.settings (sym c.is_good.ensures ∙ c.if-not-is_good.false);
     }

@@ -1,7 +1,7 @@
 use Rattle.std.proofs.Common.{bytes_eq, subst, Ok, Err, arith}
 use Rattle.mrs_arena.specs.Placed.{text_of}
 use Rattle.ast_eval.specs.Choices.{configuration_of}
-use Rattle.mrs_schema.specs.FeatureViews.{features_in}
+use Rattle.features_reader.specs.FeatureViews.{features_in}
 use Rattle.spec_features.specs.Theory.{theory}
 use Rattle.feat_model.specs.Configures.{Configures}
 use Rattle.feat_model.specs.Named as named

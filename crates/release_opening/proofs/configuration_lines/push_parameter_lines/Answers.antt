@@ -1,29 +1,36 @@
-use Rattle.std.proofs.Common.{◌∙◌, refl, sym, ap, ◌++◌, ◌+◌, append_assoc, append-nil, arith}
-use Rattle.spec_run.specs.Configuring.{flag_text}
-use Rattle.release_opening.proofs.ConfigurationLaws.{lines_from, one_line, no_line, no_state_missing, is_held}
+use Rattle.std.proofs.Common.{◌∙◌, refl, sym, ap, ◌++◌, ◌+◌, ◌<◌, length, append_assoc, append-nil, arith}
+use Rattle.spec_run.specs.Configuring.{state_text}
+use Rattle.ast_eval.specs.ConfigView.{state_told}
+use Rattle.release_opening.proofs.ConfigurationLaws.{lines_from, one_line, no_line, is_held, names_within}
 use Rattle.release_opening.proofs.configuration_lines.push_parameter_lines.Goals as goal
 
-pub loop-name-init : goal.loop-name-init
-loop-name-init c = refl
-
-pub unreachable-requires : goal.unreachable-requires
-unreachable-requires c = no_state_missing c.args.names.now c.args.parameters.now c.args.config.now c.requires c.loop-name.name-index (record { 0 = 0 }) c.loop-name-test.true (sym c.state.ensures ∙ c.in_default.is)
+pub lines-init : goal.lines-init
+lines-init c = refl
 
 pub text-requires : goal.text-requires
-text-requires c = is_held c.args.names.now c.args.parameters.now c.args.config.now c.requires c.loop-name.name-index (record { 0 = 0 }) c.loop-name-test.true
+text-requires c = is_held c.args.names.now c.args.config.now c.lines.number (c.in-Some.name.0, state_told c.in-Some.state) c.requires.held (sym c.in-Some.ensures)
 
-pub loop-name-preserved : goal.loop-name-preserved
-loop-name-preserved c =
+pub lines-smaller : goal.lines-smaller
+lines-smaller c =
+    let within = names_within c.args.config.now c.lines.number (c.in-Some.name.0, state_told c.in-Some.state) (sym c.in-Some.ensures) in
+    omega (arith, within)
+
+pub lines-preserved : goal.lines-preserved
+lines-preserved c =
     let names = c.args.names.now in
-    let rest = lines_from names c.args.config.now (c.loop-name.name-index + 1) in
-    let line = one_line names c.args.parameters.now c.args.config.now c.requires c.loop-name.name-index (record { 0 = 0 }) c.text.result.now c.in-Some.on c.loop-name-test.true c.text.ensures.text (sym c.state.ensures ∙ c.in-Some.is) in
+    let rest = lines_from names c.args.config.now (c.lines.number + 1) in
+    let line = one_line names c.args.config.now c.lines.number (c.in-Some.name.0, state_told c.in-Some.state) c.text.result.now (sym c.in-Some.ensures) c.text.ensures.text in
     ap (λ bytes. bytes ++ rest) c.in_ok-push_parameter_line.ensures
-    ∙ append_assoc c.loop-name.out.items (c.text.result.now ++ flag_text c.in-Some.on) rest
-    ∙ ap (λ lines. c.loop-name.out.items ++ lines) line
-    ∙ c.loop-name.invariant
+    ∙ append_assoc c.lines.out.items (c.text.result.now ++ state_text (state_told c.in-Some.state)) rest
+    ∙ ap (λ lines. c.lines.out.items ++ lines) line
+    ∙ c.lines.invariant
 
 pub returns : goal.returns
 returns c =
-    let i = c.loop-name.name-index in
-    sym (ap (λ rest. c.loop-name.out.items ++ rest) (no_line c.args.names.now c.args.parameters.now c.args.config.now c.requires i (omega (arith, c.loop-name-test.false))) ∙ append-nil c.loop-name.out.items)
-    ∙ c.loop-name.invariant
+    sym (ap (λ rest. c.lines.out.items ++ rest) (no_line c.args.names.now c.args.config.now c.lines.number (sym c.in_default.ensures)) ∙ append-nil c.lines.out.items)
+    ∙ c.lines.invariant
+
+pub overflow_add-number : goal.overflow_add-number
+overflow_add-number c =
+    let within = names_within c.args.config.now c.lines.number (c.in-Some.name.0, state_told c.in-Some.state) (sym c.in-Some.ensures) in
+    omega (arith, within, c.requires.few_parameters)

@@ -1,7 +1,10 @@
-use Rattle.std.proofs.Common.{◌≡◌, ◌++◌}
+use Rattle.std.proofs.Common.{◌≡◌, ◌++◌, ◌-◌, length}
 use Rattle.release_opening.proofs.ConfigurationLaws.{lines_from}
 use Rattle.release_opening.proofs.configuration_lines.push_parameter_lines.Given as goal
 
 -- with the lines of the parameters that are left, those of all are there
-abbrev pub invariant-loop-name : goal.invariant-loop-name
-invariant-loop-name l = l.out.items ++ lines_from l.names l.config l.name-index ≡ l.initial.out.items ++ lines_from l.names l.config 0
+abbrev pub invariant-lines : goal.invariant-lines
+invariant-lines l = l.out.items ++ lines_from l.names l.config l.number ≡ l.fn.out.items ++ lines_from l.names l.config 0
+
+abbrev pub decreases-lines : goal.decreases-lines
+decreases-lines l = length l.config.names - l.number

@@ -1,6 +1,6 @@
 use Rattle.std.proofs.Common.{◌≡◌, ◌+◌, ◌≤◌, length, map, drop}
 use Rattle.spec_features.specs.Features.{booleans}
-use Rattle.mrs_schema.specs.FeatureViews.{param_of}
+use Rattle.features_reader.specs.FeatureViews.{param_of}
 use Rattle.release_opening.proofs.counting.count_booleans.Given as goal
 
 -- with those of the parameters that are left, they are those of all

@@ -1,5 +1,5 @@
 use Rattle.std.proofs.Common.{subst}
-use Rattle.mrs_schema.specs.FeatureViews.{AreNamed}
+use Rattle.features_reader.specs.FeatureViews.{AreNamed}
 use Rattle.release_opening.proofs.PinLaws.{named_by_pins}
 use Rattle.release_opening.proofs.given.features_alone.Goals as goal
 

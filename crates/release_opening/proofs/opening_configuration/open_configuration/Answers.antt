@@ -1,6 +1,6 @@
 use Rattle.std.proofs.Common.{refl, sym, subst, true, false}
 use Rattle.std.proofs.lemmas.Result.{err_from_is_err_and}
-use Rattle.mrs_schema.specs.FeatureViews.{features_in}
+use Rattle.features_reader.specs.FeatureViews.{features_in}
 use Rattle.spec_run.specs.Opening.{configured}
 use Rattle.spec_run.specs.Commands.{of_checks}
 use Rattle.release_opening.specs.Pinned.{ArePins}

@@ -1,8 +1,8 @@
 use Rattle.std.proofs.Common.{refl, ap, length}
 use Rattle.spec_run.specs.End.{Features}
 use Rattle.spec_run.specs.Opening.{by_walk}
-use Rattle.mrs_schema.specs.FeatureViews.{features_in}
-use Rattle.mrs_schema.specs.FeaturesRead.{with_expressions}
+use Rattle.features_reader.specs.FeatureViews.{features_in}
+use Rattle.features_reader.specs.FeaturesRead.{with_expressions}
 use Rattle.release_opening.proofs.opening_features.read_value.Goals as goal
 
 pub returns-in-Ok-clause-reads : goal.returns-in-Ok-clause-reads

@@ -4,7 +4,7 @@ use Rattle.spec_decode.specs.Machine.{Machine}
 use Rattle.spec_run.specs.Opening.{◌then◌, configured, machine_by}
 use Rattle.mrs_arena.specs.Placed.{text_of}
 use Rattle.mrs_arena.proofs.HeldLaws.{AreHeld-extended}
-use Rattle.mrs_schema.specs.FeatureViews.{features_in}
+use Rattle.features_reader.specs.FeatureViews.{features_in}
 use Rattle.ast_eval.specs.Choices.{configuration_of}
 use Rattle.feat_model.specs.Named.{pins_in}
 use Rattle.release_opening.proofs.PinLaws.{pins_later, are_their_own}

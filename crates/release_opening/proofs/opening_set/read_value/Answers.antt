@@ -3,7 +3,7 @@ use Rattle.spec_run.specs.End.{Insns}
 use Rattle.spec_run.specs.Opening.{by_walk}
 use Rattle.mrs_arena.proofs.TreePaths.{paths_of_tree}
 use Rattle.mrs_arena.proofs.AliasPaths.{aliases_of_tree}
-use Rattle.mrs_schema.specs.Release.{arena_counts}
+use Rattle.instructions_reader.specs.Release.{arena_counts}
 use Rattle.release_opening.proofs.opening_set.read_value.Goals as goal
 
 pub returns-in-Ok-clause-reads : goal.returns-in-Ok-clause-reads

@@ -1,0 +1,2 @@
+-- What an expression that is read stands for.
+pub mod ExprsRead

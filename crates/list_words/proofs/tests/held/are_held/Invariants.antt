@@ -1,6 +1,0 @@
-use Rattle.std.proofs.Common.{All, take}
-use Rattle.mrs_arena.specs.Placed.{IsHeldNode}
-use Rattle.list_words.proofs.tests.held.are_held.Given as goal
-
-abbrev pub invariant-loop-n : goal.invariant-loop-n
-invariant-loop-n l = All (IsHeldNode l.names) (take l.n l.arena.nodes)

@@ -1,7 +1,0 @@
-use Rattle.std.proofs.Common.{All, map, take}
-use Rattle.mrs_arena.specs.Views.{flat_item}
-use Rattle.mrs_arena.specs.Placed.{IsHeldItem}
-use Rattle.list_words.proofs.tests.held.are_items_held.Given as goal
-
-abbrev pub invariant-loop-it : goal.invariant-loop-it
-invariant-loop-it l = All (IsHeldItem l.names) (map flat_item (take l.it-index l.items))

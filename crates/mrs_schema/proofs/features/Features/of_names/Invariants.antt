@@ -1,5 +1,0 @@
-use Rattle.mrs_schema.proofs.ParamLaws.{AreKept}
-use Rattle.mrs_schema.proofs.features.Features.of_names.Given as goal
-
-abbrev pub invariant-loop-name : goal.invariant-loop-name
-invariant-loop-name l = AreKept l.params.items l.name-index l.list

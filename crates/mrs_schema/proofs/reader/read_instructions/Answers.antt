@@ -1,9 +1,0 @@
-use Rattle.std.proofs.Common.{◌∙◌, ap, []}
-use Rattle.serde_json.specs.View.{view}
-use Rattle.mrs_schema.proofs.ReleaseLaws.{arena_read}
-use Rattle.mrs_schema.proofs.reader.read_instructions.Goals as goal
-
-pub returns-in-Ok-clause-read : goal.returns-in-Ok-clause-read
-returns-in-Ok-clause-read c =
-    let start = c.new-draft.ensures ∙ ap (λ held. record { names = held; nodes = []; exprs = []; parts = [] }) c.replace-held.ensures.value in
-    arena_read c.args.isa.now (view c.args.v.now) c.args.names.now c.close-held.result.0 c.close-held.result.1 c.new-draft.result c.read_document-read.new.draft _ c.root.ensures start c.in-Ok.ensures.walk c.close-held.ensures.names c.close-held.ensures.nodes c.close-held.ensures.exprs c.close-held.ensures.held

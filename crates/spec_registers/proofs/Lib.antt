@@ -1,0 +1,4 @@
+mod Worked
+pub mod GapLaws
+pub mod ViewLaws
+pub mod SoundLaws
