@@ -10,7 +10,7 @@ use Rattle.mrs_command.specs.declared.commands.Request.TheVariants as code
 use Rattle.mrs_command.specs.Commands.{command_of, asked_of, IsSaid, ArePinsFew}
 
 few_of : (asked : Request) → length (pinned_in (asked_of asked)) ≤ pin_limit → ArePinsFew asked
-few_of (code.List release bare max configured) few = few
+few_of (code.List release lines max configured) few = few
 few_of (code.Asm release max configured) few = few
 few_of (code.Leaf release label) few = tt
 few_of (code.Config features pins) few = few

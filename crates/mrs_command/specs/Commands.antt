@@ -4,6 +4,8 @@ use Rattle.spec_command.specs.Commands as spec
 use Rattle.spec_command.specs.Words.{Command, command}
 use Rattle.mrs_command.specs.declared.commands.Verb.{Verb}
 use Rattle.mrs_command.specs.declared.commands.Verb.TheVariants as verb
+use Rattle.mrs_command.specs.declared.commands.Form.{Form}
+use Rattle.mrs_command.specs.declared.commands.Form.TheVariants as form
 use Rattle.mrs_command.specs.declared.commands.Release.{Release}
 use Rattle.mrs_command.specs.declared.commands.Configured.{Configured}
 use Rattle.mrs_command.specs.declared.commands.Checks.{Checks}
@@ -26,6 +28,10 @@ command_of said = record { verb = verb_of said.0; pairs = said.1 }
 abbrev pub IsSaid : Verb × List (List ℕ × List ℕ) → Type 0
 IsSaid said = (words : List (List ℕ)) × (command words ≡ Ok (command_of said))
 
+abbrev pub form_of : Form → spec.Form
+form_of form.Full = spec.Full
+form_of form.Bare = spec.Bare
+
 abbrev pub release_of : Release → spec.Release
 release_of release = record { insns = release.insns.now; isa = release.isa.now }
 
@@ -36,7 +42,7 @@ abbrev pub checks_of : Checks → spec.Checks
 checks_of checks = record { insns = option_map (λ name. name.now) checks.insns; isa = checks.isa.now; features = option_map (λ name. name.now) checks.features }
 
 abbrev pub asked_of : Request → spec.Request
-asked_of (code.List release bare max configured) = spec.AskList (release_of release) bare max (configured_of configured)
+asked_of (code.List release lines max configured) = spec.AskList (release_of release) (form_of lines) max (configured_of configured)
 asked_of (code.Asm release max configured) = spec.AskAsm (release_of release) max (configured_of configured)
 asked_of (code.Leaf release label) = spec.AskLeaf (release_of release) label.now
 asked_of (code.Config features pins) = spec.AskConfig features.now pins
@@ -45,7 +51,7 @@ asked_of (code.Check checks) = spec.AskCheck (checks_of checks)
 
 -- a limit of the stream is at most 2^40 bytes
 abbrev pub IsLimited : Request → Type 0
-IsLimited (code.List release bare max configured) = max ≤ 2 ^ 40
+IsLimited (code.List release lines max configured) = max ≤ 2 ^ 40
 IsLimited (code.Asm release max configured) = max ≤ 2 ^ 40
 IsLimited (code.Leaf release label) = ⊤
 IsLimited (code.Config features pins) = ⊤
@@ -54,7 +60,7 @@ IsLimited (code.Check checks) = ⊤
 
 -- there are at most 4,096 pins
 abbrev pub ArePinsFew : Request → Type 0
-ArePinsFew (code.List release bare max configured) = length configured.pins ≤ spec.pin_limit
+ArePinsFew (code.List release lines max configured) = length configured.pins ≤ spec.pin_limit
 ArePinsFew (code.Asm release max configured) = length configured.pins ≤ spec.pin_limit
 ArePinsFew (code.Leaf release label) = ⊤
 ArePinsFew (code.Config features pins) = length pins ≤ spec.pin_limit

@@ -3,11 +3,11 @@ ghost use Rattle.std.specs.Prelude.{◌≡◌, ◌≤◌, ◌^◌, map, option_m
 ghost use Rattle.spec_command.specs.Commands as spec;
 ghost use Rattle.spec_command.specs.Setting.{value_in};
 ghost use Rattle.spec_command.specs.Words.{verb_named};
-ghost use Rattle.mrs_command.specs.Commands.{verb_of, release_of, configured_of, asked_of, IsLimited};
+ghost use Rattle.mrs_command.specs.Commands.{verb_of, form_of, release_of, configured_of, asked_of, IsLimited};
 
 use crate::pairs::Pairs;
 use crate::pins::Pins;
-use crate::values::{USUAL_LIMIT, bare_by, limit_by};
+use crate::values::{USUAL_LIMIT, form_by, limit_by};
 
 /// A set of instructions: the name of its document, and its own.
 #[derive(Clone, Copy)]
@@ -32,14 +32,21 @@ pub struct Checks<'a> {
     pub features: Option<&'a str>,
 }
 
+/// The form of lines: they tell all that is found, or are such as `asm` reads back.
+#[derive(Clone, Copy, PartialEq, Eq, Debug)]
+pub enum Form {
+    Full,
+    Bare,
+}
+
 /// What the words of a command line ask for: a command, and what its keys say.
 #[derive(Drop)]
 pub enum Request<'a> {
-    /// `list` lists the words of a stream, of which it takes at most `max` bytes, up to 2^40, in full lines or bare ones, under the
+    /// `list` lists the words of a stream, of which it takes at most `max` bytes, up to 2^40, in lines of that form, under the
     /// configuration of features.
     List {
         release: Release<'a>,
-        bare: bool,
+        form: Form,
         max: u64,
         configured: Configured<'a>,
     },
@@ -138,7 +145,7 @@ fn list_request<'a>(pairs: &Pairs<'a>) -> Option<Request<'a>>
 {
     Some(Request::List {
         release: release_in(pairs)?,
-        bare: is_bare(pairs),
+        form: form_in(pairs),
         max: limit_in(pairs),
         configured: configured_in(pairs),
     })
@@ -232,13 +239,13 @@ fn configured_in<'a>(pairs: &Pairs<'a>) -> Configured<'a>
     }
 }
 
-/// Whether pairs ask for bare lines.
-fn is_bare(pairs: &Pairs<'_>) -> bool
-    ensures { Some result ≡ spec.form.value pairs.now }
+/// The form of lines that pairs ask for.
+fn form_in(pairs: &Pairs<'_>) -> Form
+    ensures { Some (form_of result) ≡ spec.form.value pairs.now }
 {
     match pairs.value("form") {
-        Some(text) => bare_by(text).unwrap_or(false),
-        None => false,
+        Some(text) => form_by(text).unwrap_or(Form::Full),
+        None => Form::Full,
     }
 }
 

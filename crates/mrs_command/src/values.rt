@@ -1,8 +1,9 @@
 //! Which values keys take, and what they say.
 ghost use Rattle.std.specs.Prelude.{◌≡◌, ◌≤◌, ◌^◌, option_map, IfSome};
 ghost use Rattle.spec_command.specs.Commands as spec;
+ghost use Rattle.mrs_command.specs.Commands.{form_of};
 
-use crate::commands::is_among;
+use crate::commands::{Form, is_among};
 use crate::pin_words::is_pin_key;
 use mrs_names::is_name;
 use number_text::number_below;
@@ -13,13 +14,13 @@ pub(crate) const USUAL_LIMIT: u64 = 4_294_967_296;
 /// How many bytes a setting may allow at most: 2^40.
 const GREATEST_LIMIT: u128 = 1_099_511_627_776;
 
-/// Whether a text asks for bare lines or for full ones; `None` exactly where it is the word for neither.
-pub(crate) fn bare_by(text: &str) -> Option<bool>
-    ensures { result ≡ spec.bare_by text.now }
+/// The form of lines that a text says; `None` exactly where it is the word for none.
+pub(crate) fn form_by(text: &str) -> Option<Form>
+    ensures { option_map form_of result ≡ spec.form_by text.now }
 {
     match text {
-        "full" => Some(false),
-        "bare" => Some(true),
+        "full" => Some(Form::Full),
+        "bare" => Some(Form::Bare),
         _ => None,
     }
 }
@@ -60,7 +61,7 @@ pub(crate) fn takes(key: &str, value: &str) -> bool
     if is_pin_key(key) {
         is_name(value)
     } else if key == "form" {
-        bare_by(value).is_some()
+        form_by(value).is_some()
     } else if is_number_key(key) {
         number_by(key, value).is_some()
     } else {

@@ -7,7 +7,7 @@ use Rattle.std.proofs.lemmas.Bool.{ltb-true, and_parts}
 use Rattle.std.proofs.lemmas.List.Sums.{count_by_more_yes, count_by_more_no, sum_by-cons}
 use Rattle.spec_command.specs.Ask.{handed}
 use Rattle.spec_command.specs.Setting.{setting_in, settings_in, value_in}
-use Rattle.spec_command.specs.Commands.{Release, Configured, Checks, Request, Verb, AskList, AskAsm, AskLeaf, AskConfig, AskProof, AskCheck, list_verb, asm_verb, leaf_verb, config_verb, proof_verb, check_verb, release, bare_by, form, limit_by, limit, configured, checks, pin_limit, is_one_of, takes}
+use Rattle.spec_command.specs.Commands.{Release, Configured, Checks, Form, Request, Verb, AskList, AskAsm, AskLeaf, AskConfig, AskProof, AskCheck, list_verb, asm_verb, leaf_verb, config_verb, proof_verb, check_verb, release, form_by, Full, form, limit_by, limit, configured, checks, pin_limit, is_one_of, takes}
 use Rattle.spec_command.specs.Pins.{Pin, pin_keys, pins_in}
 use Rattle.spec_command.specs.Words.{Command, asked, is_pin, is_good, first_bad, spoken}
 use Rattle.spec_command.proofs.CommandLaws.{spoken_is, by_verb, good_at}
@@ -59,7 +59,7 @@ few_pins keys words first =
 -- ---- what a request pins
 
 abbrev pub pinned_in : Request → List Pin
-pinned_in (AskList from bare most by) = by.pins
+pinned_in (AskList from lines most by) = by.pins
 pinned_in (AskAsm from most by) = by.pins
 pinned_in (AskLeaf from label) = []
 pinned_in (AskConfig features pins) = pins
@@ -80,19 +80,19 @@ told settings = record { features = value_in (codes "features") settings; pins =
 list_few : AsksFew list_verb
 list_few settings r h = go (release.value settings) h
   where
-    bare : Bool
-    bare = unwrap_or (option_and_then bare_by (value_in (codes "form") settings)) false
+    lines : Form
+    lines = unwrap_or (option_and_then form_by (value_in (codes "form") settings)) Full
 
     most : ℕ
     most = unwrap_or (option_and_then limit_by (value_in (codes "max") settings)) 4294967296
 
     -- what is asked for, by a release
     by_release : Option Release → Option Request
-    by_release found = (handed (handed (handed (record { keys = []; value = λ _. option_map (λ from bare most by. AskList from bare most by) found }) form) limit) configured).value settings
+    by_release found = (handed (handed (handed (record { keys = []; value = λ _. option_map (λ from form most by. AskList from form most by) found }) form) limit) configured).value settings
 
     go : (found : Option Release) → by_release found ≡ Some r → length (pinned_in r) ≤ length (pins_in settings)
     go None h = absurd cc
-    go (Some from) h = no_more settings (AskList from bare most (told settings)) r (omega arith) h
+    go (Some from) h = no_more settings (AskList from lines most (told settings)) r (omega arith) h
 
 asm_few : AsksFew asm_verb
 asm_few settings r h = go (release.value settings) h

@@ -2,7 +2,7 @@
 use Rattle.std.specs.Prelude.{◌≡◌, [], ◌∷◌, true, false, Some, None, Ok, Err, codes, refl}
 use Rattle.spec_command.specs.Setting.{value_in}
 use Rattle.spec_command.specs.Pins.{pins_in}
-use Rattle.spec_command.specs.Commands.{Configured, AskList, AskAsm, AskLeaf, AskConfig, AskProof, AskCheck, list_verb, leaf_verb, config_verb, check_verb}
+use Rattle.spec_command.specs.Commands.{Configured, Full, Bare, AskList, AskAsm, AskLeaf, AskConfig, AskProof, AskCheck, list_verb, leaf_verb, config_verb, check_verb}
 use Rattle.spec_command.specs.Words.{IsNumber, command}
 use Rattle.spec_command.specs.Request.{request}
 
@@ -34,7 +34,7 @@ no_equals = refl
 empty_key : request (codes "list" ∷ codes "=x" ∷ []) ≡ Err 1
 empty_key = refl
 
-first_equals : request (codes "list" ∷ codes "insns=a=b" ∷ []) ≡ Ok (AskList (record { insns = codes "a=b"; isa = codes "A64" }) false 4294967296 unsaid)
+first_equals : request (codes "list" ∷ codes "insns=a=b" ∷ []) ≡ Ok (AskList (record { insns = codes "a=b"; isa = codes "A64" }) Full 4294967296 unsaid)
 first_equals = refl
 
 no_label : request (codes "leaf" ∷ codes "insns=i" ∷ []) ≡ Err 2
@@ -58,16 +58,16 @@ set_alone = refl
 
 -- several words may have the key of a pin, also with one value
 pins : request (codes "list" ∷ codes "on=B" ∷ codes "insns=i" ∷ codes "on=A" ∷ codes "on=B" ∷ [])
-    ≡ Ok (AskList (record { insns = codes "i"; isa = codes "A64" }) false 4294967296 (record { features = None; pins = (codes "B", true) ∷ (codes "A", true) ∷ (codes "B", true) ∷ [] }))
+    ≡ Ok (AskList (record { insns = codes "i"; isa = codes "A64" }) Full 4294967296 (record { features = None; pins = (codes "B", true) ∷ (codes "A", true) ∷ (codes "B", true) ∷ [] }))
 pins = refl
 
 -- pins are on or off, by a document of features or without one
 pins_by_features : request (codes "list" ∷ codes "insns=i" ∷ codes "features=f" ∷ codes "off=A" ∷ codes "on=B" ∷ [])
-    ≡ Ok (AskList (record { insns = codes "i"; isa = codes "A64" }) false 4294967296 (record { features = Some (codes "f"); pins = (codes "A", false) ∷ (codes "B", true) ∷ [] }))
+    ≡ Ok (AskList (record { insns = codes "i"; isa = codes "A64" }) Full 4294967296 (record { features = Some (codes "f"); pins = (codes "A", false) ∷ (codes "B", true) ∷ [] }))
 pins_by_features = refl
 
 pinned_off : request (codes "list" ∷ codes "insns=i" ∷ codes "off=A" ∷ [])
-    ≡ Ok (AskList (record { insns = codes "i"; isa = codes "A64" }) false 4294967296 (record { features = None; pins = (codes "A", false) ∷ [] }))
+    ≡ Ok (AskList (record { insns = codes "i"; isa = codes "A64" }) Full 4294967296 (record { features = None; pins = (codes "A", false) ∷ [] }))
 pinned_off = refl
 
 lines_by_features : request (codes "asm" ∷ codes "off=A" ∷ codes "features=f" ∷ codes "insns=i" ∷ [])
@@ -112,10 +112,10 @@ no_pins_of_a_check : request (codes "check" ∷ codes "features=f" ∷ codes "on
 no_pins_of_a_check = refl
 
 -- lines are full or bare, and a limit is a number up to 2^40
-bare_lines : request (codes "list" ∷ codes "insns=i" ∷ codes "max=0x10" ∷ codes "form=bare" ∷ []) ≡ Ok (AskList (record { insns = codes "i"; isa = codes "A64" }) true 16 unsaid)
+bare_lines : request (codes "list" ∷ codes "insns=i" ∷ codes "max=0x10" ∷ codes "form=bare" ∷ []) ≡ Ok (AskList (record { insns = codes "i"; isa = codes "A64" }) Bare 16 unsaid)
 bare_lines = refl
 
-full_lines : request (codes "list" ∷ codes "form=full" ∷ codes "max=1099511627776" ∷ codes "insns=i" ∷ []) ≡ Ok (AskList (record { insns = codes "i"; isa = codes "A64" }) false 1099511627776 unsaid)
+full_lines : request (codes "list" ∷ codes "form=full" ∷ codes "max=1099511627776" ∷ codes "insns=i" ∷ []) ≡ Ok (AskList (record { insns = codes "i"; isa = codes "A64" }) Full 1099511627776 unsaid)
 full_lines = refl
 
 other_form : request (codes "list" ∷ codes "form=Bare" ∷ codes "insns=i" ∷ []) ≡ Err 1

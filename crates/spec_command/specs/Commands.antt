@@ -1,5 +1,5 @@
 -- The commands' verbs: the word that says each, its keys, and what it asks for. The rules are this project's own.
-use Rattle.std.specs.Prelude.{ℕ, Bool, true, false, ◌||◌, List, [], ◌∷◌, Option, Some, None, is_some, codes, bytes_eq, if◌then◌else◌}
+use Rattle.std.specs.Prelude.{ℕ, Bool, true, ◌||◌, List, [], ◌∷◌, Option, Some, None, is_some, codes, bytes_eq, if◌then◌else◌}
 use Rattle.std.specs.List.{list_any}
 use Rattle.spec_names.specs.Name.{is_name}
 use Rattle.spec_command.specs.Number.{number_below}
@@ -23,10 +23,15 @@ pub record Checks : Type 0 where
   pub isa : List ℕ
   pub features : Option (List ℕ)
 
+-- lines tell all that is found, or are such as can be read back
+pub data Form : Type 0 where
+  Full : Form
+  Bare : Form
+
 -- what a command asks for: one value for each command
 pub data Request : Type 0 where
-  -- whether the lines are bare, and at most how many bytes of the stream are taken
-  AskList : Release → Bool → ℕ → Configured → Request
+  -- the form of the lines, and at most how many bytes of the stream are taken
+  AskList : Release → Form → ℕ → Configured → Request
   -- at most how many bytes of the stream are taken
   AskAsm : Release → ℕ → Configured → Request
   AskLeaf : Release → List ℕ → Request
@@ -45,11 +50,11 @@ abbrev pub release : Ask Release
 release = together (λ insns isa. record { insns = insns; isa = isa }) (needed (codes "insns")) (may_say (codes "isa") (codes "A64"))
 
 -- `form`, by which lines are full or bare, and full where no setting says it
-abbrev pub bare_by : List ℕ → Option Bool
-bare_by text = if bytes_eq text (codes "full") then Some false else (if bytes_eq text (codes "bare") then Some true else None)
+abbrev pub form_by : List ℕ → Option Form
+form_by text = if bytes_eq text (codes "full") then Some Full else (if bytes_eq text (codes "bare") then Some Bare else None)
 
-abbrev pub form : Ask Bool
-form = may_be (codes "form") bare_by false
+abbrev pub form : Ask Form
+form = may_be (codes "form") form_by Full
 
 -- `max`, at most how many bytes of the stream are taken: a number below 2 ^ 40 + 1, and 2 ^ 32 where no setting says it
 abbrev pub limit_by : List ℕ → Option ℕ
@@ -72,7 +77,7 @@ checks = provided names_one (handed (together (λ insns isa features. record { i
 
 -- lists the words of a stream
 abbrev pub list_verb : Verb
-list_verb = record { word = codes "list"; asks = handed (handed (handed (made_into (λ from bare most by. AskList from bare most by) release) form) limit) configured }
+list_verb = record { word = codes "list"; asks = handed (handed (handed (made_into (λ from form most by. AskList from form most by) release) form) limit) configured }
 
 -- assembles the lines of a stream
 abbrev pub asm_verb : Verb
@@ -118,6 +123,6 @@ number_by key value = if bytes_eq key (codes "max") then limit_by value else Non
 abbrev pub takes : List ℕ → List ℕ → Bool
 takes key value =
     if is_one_of pin_keys key then is_name value
-    else (if bytes_eq key (codes "form") then is_some (bare_by value)
+    else (if bytes_eq key (codes "form") then is_some (form_by value)
     else (if is_one_of number_keys key then is_some (number_by key value)
     else true))
