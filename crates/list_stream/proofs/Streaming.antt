@@ -7,7 +7,8 @@ use Rattle.spec_io.specs.Faults.{Rose}
 use Rattle.spec_io.specs.States.{Reading, Writing}
 use Rattle.spec_decode.specs.Machine.{Machine}
 use Rattle.spec_lines.specs.Words.{words_in, rest_in}
-use Rattle.spec_lines.specs.Streams.{Form, word_lines, bytes_line, stream_lines}
+use Rattle.spec_command.specs.Commands.{Form}
+use Rattle.spec_lines.specs.Streams.{word_lines, bytes_line, stream_lines}
 use Rattle.spec_lines.proofs.Streams.{IsWhole, words_in-append, rest_in-append, length-words_in}
 use Rattle.spec_lines.proofs.StreamLines.{word_lines-words}
 use Rattle.spec_run.specs.End as run

@@ -5,7 +5,8 @@ use Rattle.spec_io.specs.Faults.{Rose}
 use Rattle.spec_io.specs.States.{Reading, Writing}
 use Rattle.spec_decode.specs.Machine.{Machine}
 use Rattle.spec_lines.specs.Words.{words_in, rest_in}
-use Rattle.spec_lines.specs.Streams.{Form, word_lines, bytes_line}
+use Rattle.spec_command.specs.Commands.{Form}
+use Rattle.spec_lines.specs.Streams.{word_lines, bytes_line}
 use Rattle.mrs_io.specs.Pieces.{AppendsPart}
 use Rattle.list_stream.specs.declared.piece.Stop.{Stop}
 use Rattle.list_stream.specs.declared.piece.Stop.TheVariants as stop

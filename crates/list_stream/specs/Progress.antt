@@ -4,7 +4,8 @@ use Rattle.std.specs.Io.KnownBytes.{Appends, Consumes}
 use Rattle.spec_io.specs.States.{Reading, Writing}
 use Rattle.spec_decode.specs.Machine.{Machine}
 use Rattle.spec_lines.specs.Words.{words_in}
-use Rattle.spec_lines.specs.Streams.{Form, word_lines}
+use Rattle.spec_command.specs.Commands.{Form}
+use Rattle.spec_lines.specs.Streams.{word_lines}
 
 -- k pieces were read, and their words were listed
 pub record Progress (form : Form) (machine : Machine) (r0 r : Reading) (w0 w : Writing) (k : ℕ) : Type 0 where

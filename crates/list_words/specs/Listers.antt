@@ -1,6 +1,7 @@
 -- What a lister stands for.
 use Rattle.spec_decode.specs.Machine.{Machine}
-use Rattle.spec_lines.specs.Streams.{Form, form_by}
+use Rattle.spec_command.specs.Commands.{Form}
+use Rattle.line_form.specs.Forms.{form_of}
 use Rattle.list_words.specs.declared.lister.Lister.{Lister}
 use Rattle.list_words.specs.Machines.{machine_of, AreOneRelease}
 
@@ -14,4 +15,4 @@ machine l = machine_of l.names.now l.tree.now l.config.now
 
 -- the form of its lines
 abbrev pub form : Lister → Form
-form l = form_by l.bare
+form l = form_of l.form

@@ -5,11 +5,12 @@ use ast_eval::Config;
 use insn_alias::preferred;
 use insn_decode::{Candidates, Decider, Found};
 use insn_encode::{EncodeFault, Shown, encode_along, rest_along, shown_along};
+use line_form::Form;
 use insn_tree::{FieldRange, LabelRef, LeafId, PathId, Tree};
 use mrs_names::{NameId, Names};
 
-/// The tree of a set of instructions with its decider, the names that it was made with, a configuration, and whether lines
-/// are bare, which can be read back, or full.
+/// The tree of a set of instructions with its decider, the names that it was made with, a configuration, and the form of
+/// lines.
 ///
 /// They are of one release: the decider was made from that tree, and the names hold those of the tree and of the
 /// configuration's parameters.
@@ -19,7 +20,7 @@ pub struct Lister<'a> {
     pub tree: &'a Tree,
     pub decider: &'a Decider,
     pub config: &'a Config,
-    pub bare: bool,
+    pub form: Form,
 }
 
 impl<'a> Lister<'a> {

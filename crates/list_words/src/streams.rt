@@ -1,5 +1,6 @@
 //! The lines of pieces of a stream.
 ghost use Rattle.std.specs.Prelude.{◌≡◌, ◌+◌, ◌++◌, ◌<◌, ◌^◌, length, OnOk, flat_map};
+ghost use Rattle.spec_command.specs.Commands.{Full};
 ghost use Rattle.spec_lines.specs.Hex.{hex};
 ghost use Rattle.spec_lines.specs.Words.{words_in};
 ghost use Rattle.spec_lines.specs.Streams.{word_line, word_lines, bytes_head, bytes_line};
@@ -9,6 +10,7 @@ use crate::bare::push_bare_line;
 use crate::full::push_line;
 use crate::hex::push_hex;
 use crate::lister::Lister;
+use line_form::Form;
 use std::alloc::AllocError;
 
 /// Appends the line of a word in the lister's form.
@@ -21,10 +23,9 @@ fn push_word_line(
     requires { IsOneRelease lister.now }
     ensures { OnOk result (out.new.items ≡ out.old.items ++ word_line (form lister.now) (machine lister.now) offset word) }
 {
-    if lister.bare {
-        push_bare_line(out, lister, word)
-    } else {
-        push_line(out, lister, offset, word)
+    match lister.form {
+        Form::Full => push_line(out, lister, offset, word),
+        Form::Bare => push_bare_line(out, lister, word),
     }
 }
 
@@ -50,17 +51,22 @@ pub fn push_lines(
     Ok(())
 }
 
-/// Appends what stands before the bytes behind the last whole word.
+/// Appends the offset of the first of those bytes and ` rest `.
+fn push_rest_head(out: &mut Vec<u8>, offset: u64) -> Result<(), AllocError>
+    ensures { OnOk result (out.new.items ≡ out.old.items ++ bytes_head Full offset) }
+{
+    push_hex(out, offset, 8)?;
+    out.extend_from_slice(b" rest ")
+}
+
+/// Appends what stands before the bytes behind the last whole word, in the lister's form.
 fn push_bytes_head(out: &mut Vec<u8>, lister: &Lister<'_>, offset: u64) -> Result<(), AllocError>
     ensures { OnOk result (out.new.items ≡ out.old.items ++ bytes_head (form lister.now) offset) }
 {
-    if lister.bare {
-        out.extend_from_slice(b"bytes ")?;
-    } else {
-        push_hex(out, offset, 8)?;
-        out.extend_from_slice(b" rest ")?;
+    match lister.form {
+        Form::Full => push_rest_head(out, offset),
+        Form::Bare => out.extend_from_slice(b"bytes "),
     }
-    Ok(())
 }
 
 /// Appends bytes, two digits each.

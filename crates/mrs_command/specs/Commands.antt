@@ -2,10 +2,9 @@
 use Rattle.std.specs.Prelude.{◌≡◌, ◌≤◌, ◌^◌, ℕ, List, ⊤, length, option_map, Ok}
 use Rattle.spec_command.specs.Commands as spec
 use Rattle.spec_command.specs.Words.{Command, command}
+use Rattle.line_form.specs.Forms.{form_of}
 use Rattle.mrs_command.specs.declared.commands.Verb.{Verb}
 use Rattle.mrs_command.specs.declared.commands.Verb.TheVariants as verb
-use Rattle.mrs_command.specs.declared.commands.Form.{Form}
-use Rattle.mrs_command.specs.declared.commands.Form.TheVariants as form
 use Rattle.mrs_command.specs.declared.commands.Release.{Release}
 use Rattle.mrs_command.specs.declared.commands.Configured.{Configured}
 use Rattle.mrs_command.specs.declared.commands.Checks.{Checks}
@@ -27,10 +26,6 @@ command_of said = record { verb = verb_of said.0; pairs = said.1 }
 -- it is the command of some words
 abbrev pub IsSaid : Verb × List (List ℕ × List ℕ) → Type 0
 IsSaid said = (words : List (List ℕ)) × (command words ≡ Ok (command_of said))
-
-abbrev pub form_of : Form → spec.Form
-form_of form.Full = spec.Full
-form_of form.Bare = spec.Bare
 
 abbrev pub release_of : Release → spec.Release
 release_of release = record { insns = release.insns.now; isa = release.isa.now }

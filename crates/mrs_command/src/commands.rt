@@ -3,11 +3,13 @@ ghost use Rattle.std.specs.Prelude.{◌≡◌, ◌≤◌, ◌^◌, map, option_m
 ghost use Rattle.spec_command.specs.Commands as spec;
 ghost use Rattle.spec_command.specs.Setting.{value_in};
 ghost use Rattle.spec_command.specs.Words.{verb_named};
-ghost use Rattle.mrs_command.specs.Commands.{verb_of, form_of, release_of, configured_of, asked_of, IsLimited};
+ghost use Rattle.line_form.specs.Forms.{form_of};
+ghost use Rattle.mrs_command.specs.Commands.{verb_of, release_of, configured_of, asked_of, IsLimited};
 
 use crate::pairs::Pairs;
 use crate::pins::Pins;
 use crate::values::{USUAL_LIMIT, form_by, limit_by};
+use line_form::Form;
 
 /// A set of instructions: the name of its document, and its own.
 #[derive(Clone, Copy)]
@@ -30,13 +32,6 @@ pub struct Checks<'a> {
     pub insns: Option<&'a str>,
     pub isa: &'a str,
     pub features: Option<&'a str>,
-}
-
-/// The form of lines: they tell all that is found, or are such as `asm` reads back.
-#[derive(Clone, Copy, PartialEq, Eq, Debug)]
-pub enum Form {
-    Full,
-    Bare,
 }
 
 /// What the words of a command line ask for: a command, and what its keys say.

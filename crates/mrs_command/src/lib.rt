@@ -14,7 +14,8 @@ mod values;
 
 pub use bad_word::BadWord;
 pub use command::Command;
-pub use commands::{Checks, Configured, Form, Release, Request, Verb};
+pub use commands::{Checks, Configured, Release, Request, Verb};
+pub use line_form::Form;
 pub use pairs::Pairs;
 pub use pins::{Pin, Pins};
 pub use reading::{read_command, read_request};

@@ -1,10 +1,11 @@
 //! Which values keys take, and what they say.
 ghost use Rattle.std.specs.Prelude.{◌≡◌, ◌≤◌, ◌^◌, option_map, IfSome};
 ghost use Rattle.spec_command.specs.Commands as spec;
-ghost use Rattle.mrs_command.specs.Commands.{form_of};
+ghost use Rattle.line_form.specs.Forms.{form_of};
 
-use crate::commands::{Form, is_among};
+use crate::commands::is_among;
 use crate::pin_words::is_pin_key;
+use line_form::Form;
 use mrs_names::is_name;
 use number_text::number_below;
 

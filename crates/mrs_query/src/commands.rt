@@ -44,10 +44,10 @@ pub(crate) fn fulfil<V: Shelf, S: Source, K: Sink>(
     match asked {
         Request::List {
             release,
-            bare,
+            form,
             max,
             configured,
-        } => list::fulfil(alloc, release, bare, max, configured, shelf, input, out),
+        } => list::fulfil(alloc, release, form, max, configured, shelf, input, out),
         Request::Asm {
             release,
             max,

@@ -3,6 +3,7 @@
 use ast_eval::Config;
 use insn_decode::Decider;
 use insn_tree::{LeafId, Tree};
+use line_form::Form;
 use list_words::{Lister, push_leaf};
 use mrs_names::Names;
 use std::alloc::AllocError;
@@ -35,7 +36,7 @@ impl Model for Opened {
 impl Opened {
     ghost use Rattle.std.specs.Prelude.{◌≡◌, ◌<◌, ◌++◌, length, option_map, OnOk, IfSome};
     ghost use Rattle.spec_instructions.specs.Paths.{labelled_leaf};
-    ghost use Rattle.spec_lines.specs.Streams.{form_by};
+    ghost use Rattle.line_form.specs.Forms.{form_of};
     ghost use Rattle.spec_lines.specs.LeafFields.{whole_leaf};
     ghost use Rattle.list_words.specs.Machines.{machine_of, AreOneRelease};
     ghost use Rattle.list_words.specs.Listers.{IsOneRelease, machine, form};
@@ -53,18 +54,18 @@ impl Opened {
         }
     }
 
-    /// By what its lines are printed and read, bare or full.
-    pub fn lister(&self, bare: bool) -> Lister<'_>
+    /// By what its lines are printed, in that form, and read.
+    pub fn lister(&self, form: Form) -> Lister<'_>
         ensures release { IsOneRelease result }
         ensures machine { machine result ≡ self.now }
-        ensures form { form result ≡ form_by bare }
+        ensures form { form result ≡ form_of form }
     {
         Lister {
             names: &self.names,
             tree: &self.tree,
             decider: &self.decider,
             config: &self.config,
-            bare,
+            form,
         }
     }
 

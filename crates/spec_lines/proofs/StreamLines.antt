@@ -2,7 +2,8 @@
 use Rattle.std.proofs.Common.{◌≡◌, ℕ, suc, ◌+◌, ◌*◌, List, [], ◌∷◌, ◌++◌, length, sym, arith, append_assoc, length-append, add-zero}
 use Rattle.spec_decode.specs.Machine.{Machine}
 use Rattle.spec_lines.specs.Words.{words_in, rest_in}
-use Rattle.spec_lines.specs.Streams.{Form, word_line, word_lines, bytes_line, stream_lines}
+use Rattle.spec_command.specs.Commands.{Form}
+use Rattle.spec_lines.specs.Streams.{word_line, word_lines, bytes_line, stream_lines}
 use Rattle.spec_lines.proofs.Streams.{IsWhole, words_in-append, rest_in-append, length-words_in}
 
 pub word_lines-append : (form : Form) (machine : Machine) (offset : ℕ) (ws vs : List ℕ)

@@ -23,7 +23,8 @@ use Rattle.spec_lines.specs.Pairs.{pair_text, rest_text, pairs_text}
 use Rattle.spec_lines.specs.Way.{Way, ByLeaf, ByAlias, way_of}
 use Rattle.spec_lines.specs.BareLine.{bare_text, bare_way, bare_leaves, word_text}
 use Rattle.spec_lines.specs.Words.{words_in, rest_in}
-use Rattle.spec_lines.specs.Streams.{Bare, word_lines, bytes_line}
+use Rattle.spec_command.specs.Commands.{Bare}
+use Rattle.spec_lines.specs.Streams.{word_lines, bytes_line}
 use Rattle.spec_lines.specs.LineFault.{LineFault}
 use Rattle.spec_lines.specs.Parsed.{parsed}
 use Rattle.spec_lines.specs.Assembly.{lines_in, before_lines, before_assembled, assembled_from, assembled}

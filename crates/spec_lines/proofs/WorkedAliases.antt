@@ -9,7 +9,8 @@ use Rattle.spec_instructions.specs.Tree.{Own, bare}
 use Rattle.spec_decode.specs.Machine.{Machine}
 use Rattle.spec_encoding.specs.Parts.{highest, number_of_bits}
 use Rattle.spec_lines.specs.BareLine.{bare_line}
-use Rattle.spec_lines.specs.Streams.{Full, stream_lines}
+use Rattle.spec_command.specs.Commands.{Full}
+use Rattle.spec_lines.specs.Streams.{stream_lines}
 use Rattle.spec_lines.specs.LineFault.{LineFault}
 use Rattle.spec_lines.specs.Parsed.{parsed}
 use Rattle.spec_lines.specs.Reasons.{reason}

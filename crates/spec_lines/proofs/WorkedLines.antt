@@ -10,7 +10,8 @@ use Rattle.spec_instructions.specs.Tree.{Own, bare}
 use Rattle.spec_decode.specs.Machine.{Machine}
 use Rattle.spec_encoding.specs.Parts.{number_of_bits}
 use Rattle.spec_lines.specs.BareLine.{bare_line}
-use Rattle.spec_lines.specs.Streams.{Full, Bare, stream_lines}
+use Rattle.spec_command.specs.Commands.{Full, Bare}
+use Rattle.spec_lines.specs.Streams.{stream_lines}
 use Rattle.spec_lines.specs.LeafFields.{whole_leaf}
 
 abbrev pub digit_list : List ℕ → List Digit

@@ -13,7 +13,8 @@ use Rattle.spec_lines.specs.SoundAliases.{AreSoundAliases}
 use Rattle.spec_lines.specs.Encoded.{IsFormedMachine}
 use Rattle.spec_lines.specs.Given.{pair_limit}
 use Rattle.spec_lines.specs.BareLine.{bare_text}
-use Rattle.spec_lines.specs.Streams.{Bare, stream_lines}
+use Rattle.spec_command.specs.Commands.{Bare}
+use Rattle.spec_lines.specs.Streams.{stream_lines}
 use Rattle.spec_lines.specs.Parsed.{parsed}
 use Rattle.spec_lines.specs.Assembly.{assembled}
 

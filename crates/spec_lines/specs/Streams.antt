@@ -1,20 +1,11 @@
 -- The lines of a stream of bytes, in either form.
-use Rattle.std.specs.Prelude.{ℕ, ◌+◌, ◌*◌, Bool, true, false, List, [], ◌∷◌, ◌++◌, length, codes, flat_map}
+use Rattle.std.specs.Prelude.{ℕ, ◌+◌, ◌*◌, List, [], ◌∷◌, ◌++◌, length, codes, flat_map}
+use Rattle.spec_command.specs.Commands.{Form, Full, Bare}
 use Rattle.spec_decode.specs.Machine.{Machine}
 use Rattle.spec_lines.specs.Hex.{hex}
 use Rattle.spec_lines.specs.FullLine.{full_line}
 use Rattle.spec_lines.specs.BareLine.{bare_line}
 use Rattle.spec_lines.specs.Words.{words_in, rest_in}
-
--- lines that tell all that is found, or that are read back
-pub data Form : Type 0 where
-  Full : Form
-  Bare : Form
-
--- lines are bare or full
-abbrev pub form_by : Bool → Form
-form_by true = Bare
-form_by false = Full
 
 -- the line of a word at an offset of the stream
 abbrev pub word_line : Form → Machine → ℕ → ℕ → List ℕ

@@ -6,10 +6,10 @@ use Rattle.std.proofs.lemmas.Bool.Decides.{nat_tests}
 use Rattle.spec_instructions.specs.Paths.{labelled_leaf}
 use Rattle.spec_decode.specs.Machine.{Machine}
 use Rattle.spec_lines.specs.Words.{words_in, rest_in}
-use Rattle.spec_lines.specs.Streams.{Form, form_by, word_lines, bytes_line, stream_lines}
+use Rattle.spec_lines.specs.Streams.{word_lines, bytes_line, stream_lines}
 use Rattle.spec_lines.proofs.Streams.{words_in-front}
 use Rattle.spec_lines.proofs.StreamLines.{word_lines-append}
-use Rattle.spec_command.specs.Commands.{AskList, AskAsm, AskLeaf, AskConfig, AskProof, AskCheck}
+use Rattle.spec_command.specs.Commands.{Form, AskList, AskAsm, AskLeaf, AskConfig, AskProof, AskCheck}
 use Rattle.spec_run.specs.End.{IsEarly, Limit, Input}
 use Rattle.spec_run.specs.Work.{Outcome}
 use Rattle.spec_run.specs.Listing.{stream_end, list_outcome, list_work}
@@ -64,7 +64,7 @@ leaf_fits machine (Some k) early = absurd early
 -- ---- all commands
 
 pub works_fit : WorksFit
-works_fit (AskList release bare limit asked) machine = list_fits (form_by bare) machine limit
+works_fit (AskList release form limit asked) machine = list_fits form machine limit
 works_fit (AskAsm release limit asked) machine = asm_fits machine limit
 works_fit (AskLeaf release label) machine = leaf_fits machine (labelled_leaf machine.paths label)
 works_fit (AskConfig features pins) g = λ early. absurd early

@@ -234,7 +234,7 @@ checks_in_order asked (Some name) =
     (λ set. counted_in_order asked.features set.1 (λ features. record { set = set.0; features = features }))
 
 opened_in_order : (asked : Request) → IsInOrder 0 (opened asked)
-opened_in_order (AskList release bare limit asked) = machine_in_order release asked
+opened_in_order (AskList release form limit asked) = machine_in_order release asked
 opened_in_order (AskAsm release limit asked) = machine_in_order release asked
 opened_in_order (AskLeaf release label) = machine_in_order release unconfigured
 opened_in_order (AskConfig features pins) = configuration_in_order features pins

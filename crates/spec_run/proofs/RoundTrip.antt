@@ -9,9 +9,9 @@ use Rattle.spec_instructions.specs.Paths.{paths_from}
 use Rattle.spec_instructions.specs.Reading.{tree_read, paths_read}
 use Rattle.spec_instructions.proofs.SoundPathLaws.{paths_are_sound}
 use Rattle.spec_decode.specs.Machine.{Machine}
-use Rattle.spec_command.specs.Commands.{Release, Configured, AskList, AskAsm}
+use Rattle.spec_command.specs.Commands.{Bare, Release, Configured, AskList, AskAsm}
 use Rattle.spec_lines.specs.Words.{words_in, rest_in}
-use Rattle.spec_lines.specs.Streams.{Bare, word_lines, stream_lines}
+use Rattle.spec_lines.specs.Streams.{word_lines, stream_lines}
 use Rattle.spec_lines.specs.ReadBack.{IsReadable}
 use Rattle.spec_lines.proofs.Streams.{length-rest_in}
 use Rattle.spec_lines.proofs.StreamsBack.{bare_streams_are_read}
@@ -109,7 +109,7 @@ lists_are_assembled list_words asm_words docs bytes lines h small e le =
     ap (λ r. of_request r docs lines) h.assembles
     ∙ opened (machine_opened h.release h.asked (under_names docs)) (opened_is_readable h.release h.asked (under_names docs)) (ap (λ r. of_request r docs bytes) (sym h.lists) ∙ e)
   where
-    opened : (r : Result Machine OpeningError) → ((machine : Machine) → r ≡ Ok machine → IsReadable machine) → after_opening (AskList h.release true h.list_limit h.asked) r bytes ≡ Ok (record { end = Done; out = lines })
+    opened : (r : Result Machine OpeningError) → ((machine : Machine) → r ≡ Ok machine → IsReadable machine) → after_opening (AskList h.release Bare h.list_limit h.asked) r bytes ≡ Ok (record { end = Done; out = lines })
         → after_opening (AskAsm h.release h.asm_limit h.asked) r lines ≡ Ok (record { end = Done; out = bytes })
     opened (Err error) readable e = absurd cc
     opened (Ok machine) readable e = ap Ok (assembled_back machine h.list_limit h.asm_limit bytes lines (readable machine refl) small (ok_same _ _ e) le)

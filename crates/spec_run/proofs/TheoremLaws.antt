@@ -27,10 +27,10 @@ use Rattle.spec_decode.specs.Machine.{Machine}
 use Rattle.spec_refutation.specs.Refutation.{Refutes}
 use Rattle.spec_refutation.proofs.LogReadings.{log_is_read}
 use Rattle.spec_command.specs.Pins.{Pin}
-use Rattle.spec_command.specs.Commands.{AskList}
+use Rattle.spec_command.specs.Commands.{Full, AskList}
 use Rattle.spec_lines.specs.Words.{words_in, rest_in}
 use Rattle.spec_lines.specs.FullLine.{full_line}
-use Rattle.spec_lines.specs.Streams.{Full, word_lines, bytes_line}
+use Rattle.spec_lines.specs.Streams.{word_lines, bytes_line}
 use Rattle.spec_lines.proofs.Streams.{length-rest_in, length_rest_in_lt, rest_in-drop}
 use Rattle.spec_run.specs.Kinds.{DocumentKind, Insns, Features}
 use Rattle.spec_run.specs.Documents.{under_names}
@@ -221,8 +221,8 @@ module _ (words : List (List ℕ)) (s : Scene) (err err_after : Writing) (end : 
       ∙ ap (λ (r : Result Configuration OpeningError). r then λ g. Ok (machine_by given.set g)) e
 
   comes_to : (r : Result Machine OpeningError) → machine_opened given.release given.asked (under_names given.docs) ≡ r
-      → outcome words given.docs given.bytes ≡ after_opening (AskList given.release false given.max given.asked) r given.bytes
-  comes_to r e = ap (λ r. of_request r given.docs given.bytes) given.list ∙ ap (λ r. after_opening (AskList given.release false given.max given.asked) r given.bytes) e
+      → outcome words given.docs given.bytes ≡ after_opening (AskList given.release Full given.max given.asked) r given.bytes
+  comes_to r e = ap (λ r. of_request r given.docs given.bytes) given.list ∙ ap (λ r. after_opening (AskList given.release Full given.max given.asked) r given.bytes) e
 
   -- ---- the first configuration is used
 

@@ -10,7 +10,7 @@ use Rattle.spec_instructions.specs.Tree.{Node}
 use Rattle.spec_instructions.specs.Reading.{tree_read}
 use Rattle.spec_decode.specs.Machine.{Machine}
 use Rattle.spec_command.specs.Request.{request}
-use Rattle.spec_command.specs.Commands.{Configured, Request, AskList, AskLeaf}
+use Rattle.spec_command.specs.Commands.{Configured, Full, Request, AskList, AskLeaf}
 use Rattle.spec_run.specs.RoundTrip.{AreInverse}
 use Rattle.spec_lines.specs.LineFault.{Pair}
 use Rattle.spec_run.specs.Kinds.{Insns, Log}
@@ -63,7 +63,7 @@ line_text = refl
 
 -- a set without leaves, and a stream of one word
 abbrev of_stream : List ℕ → Result Outcome OpeningError
-of_stream bytes = after_opening (AskList (record { insns = []; isa = [] }) false 8 unconfigured) (machine_in (codes "A64") unconfigured (codes "{\"instructions\":[{\"_type\":\"Instruction.InstructionSet\",\"name\":\"A64\"}]}")) bytes
+of_stream bytes = after_opening (AskList (record { insns = []; isa = [] }) Full 8 unconfigured) (machine_in (codes "A64") unconfigured (codes "{\"instructions\":[{\"_type\":\"Instruction.InstructionSet\",\"name\":\"A64\"}]}")) bytes
 
 one_word : of_stream (0 ∷ 0 ∷ 0 ∷ 0 ∷ []) ≡ Ok (record { end = Done; out = codes "00000000 00000000 none\n" })
 unfolding digits serde_json_on_literals
@@ -88,7 +88,7 @@ conditioned = codes "{\"instructions\":[{\"_type\":\"Instruction.InstructionSet\
 
 -- what a request to list comes to over that document and one word
 abbrev listed : Result Request ℕ → Result Outcome OpeningError
-listed (Ok (AskList release bare limit asked)) = after_opening (AskList release bare limit asked) (machine_in release.isa asked conditioned) (0 ∷ 0 ∷ 0 ∷ 0 ∷ [])
+listed (Ok (AskList release form limit asked)) = after_opening (AskList release form limit asked) (machine_in release.isa asked conditioned) (0 ∷ 0 ∷ 0 ∷ 0 ∷ [])
 listed other = Ok (record { end = Usage 0; out = [] })
 
 abbrev asked : List (List ℕ) → Result Outcome OpeningError

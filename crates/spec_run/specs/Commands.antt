@@ -3,7 +3,6 @@ use Rattle.std.specs.Prelude.{◌≡◌, ℕ, List, [], ◌∷◌, ◌++◌, Opt
 use Rattle.spec_expressions.specs.Scope.{Configuration}
 use Rattle.spec_instructions.specs.Paths.{labelled_leaf}
 use Rattle.spec_decode.specs.Machine.{Machine}
-use Rattle.spec_lines.specs.Streams.{form_by}
 use Rattle.spec_lines.specs.LeafFields.{whole_leaf}
 use Rattle.spec_command.specs.Commands.{Request, Configured, Checks, AskList, AskAsm, AskLeaf, AskConfig, AskProof, AskCheck}
 use Rattle.spec_command.specs.Request.{request}
@@ -20,7 +19,7 @@ use Rattle.spec_run.specs.Work.{Outcome, Work, Once, Reads}
 
 -- what is opened for a command
 abbrev pub Needs : Request → Type 0
-Needs (AskList release bare limit asked) = Machine
+Needs (AskList release form limit asked) = Machine
 Needs (AskAsm release limit asked) = Machine
 Needs (AskLeaf release label) = Machine
 Needs (AskConfig features pins) = Configuration
@@ -29,7 +28,7 @@ Needs (AskCheck asked) = Counted
 
 -- what the documents make of it, or why it is not opened
 abbrev pub opened : (asked : Request) → Documents → Result (Needs asked) OpeningError
-opened (AskList release bare limit asked) docs = machine_opened release asked docs
+opened (AskList release form limit asked) docs = machine_opened release asked docs
 opened (AskAsm release limit asked) docs = machine_opened release asked docs
 opened (AskLeaf release label) docs = machine_opened release unconfigured docs
 opened (AskConfig features pins) docs = configuration_opened features pins docs
@@ -44,7 +43,7 @@ abbrev pub kinds_of_checks : Checks → List DocumentKind
 kinds_of_checks asked = named Insns asked.insns ++ named Features asked.features
 
 abbrev pub kinds_named : Request → List DocumentKind
-kinds_named (AskList release bare limit asked) = kinds_of_release asked
+kinds_named (AskList release form limit asked) = kinds_of_release asked
 kinds_named (AskAsm release limit asked) = kinds_of_release asked
 kinds_named (AskLeaf release label) = Insns ∷ []
 kinds_named (AskConfig features pins) = Features ∷ []
@@ -53,7 +52,7 @@ kinds_named (AskCheck asked) = kinds_of_checks asked
 
 -- it reads the stream
 abbrev pub IsOverStream : Request → Type 0
-IsOverStream (AskList release bare limit asked) = ⊤
+IsOverStream (AskList release form limit asked) = ⊤
 IsOverStream (AskAsm release limit asked) = ⊤
 IsOverStream asked = ⊥
 
@@ -70,7 +69,7 @@ leaf_outcome machine (Some k) = record { end = Done; out = whole_leaf machine k 
 -- ---- what a command does by what was opened for it
 
 abbrev pub work_of : (asked : Request) → Needs asked → Work
-work_of (AskList release bare limit asked) machine = Reads (list_work (form_by bare) machine limit)
+work_of (AskList release form limit asked) machine = Reads (list_work (form) machine limit)
 work_of (AskAsm release limit asked) machine = Reads (asm_work machine limit)
 work_of (AskLeaf release label) machine = Once (leaf_outcome machine (labelled_leaf machine.paths label))
 work_of (AskConfig features pins) g = Once (config_outcome g)

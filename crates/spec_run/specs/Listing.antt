@@ -2,7 +2,8 @@
 use Rattle.std.specs.Prelude.{ℕ, List, [], ◌∷◌, length, take, nat_lt, if◌then◌else◌}
 use Rattle.spec_decode.specs.Machine.{Machine}
 use Rattle.spec_lines.specs.Words.{words_in, rest_in}
-use Rattle.spec_lines.specs.Streams.{Form, word_lines, stream_lines}
+use Rattle.spec_command.specs.Commands.{Form}
+use Rattle.spec_lines.specs.Streams.{word_lines, stream_lines}
 use Rattle.spec_run.specs.End.{End, Done, Ragged, Limit, Input}
 use Rattle.spec_run.specs.Work.{Outcome, Over}
 

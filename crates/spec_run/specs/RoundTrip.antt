@@ -1,10 +1,10 @@
 -- `asm` over the bare lines of `list` gives the stream again.
-use Rattle.std.specs.Prelude.{◌≡◌, ◌<◌, ◌≤◌, ◌%◌, ◌^◌, ℕ, List, length, All, true, Ok}
+use Rattle.std.specs.Prelude.{◌≡◌, ◌<◌, ◌≤◌, ◌%◌, ◌^◌, ℕ, List, length, All, Ok}
 use Rattle.spec_io.specs.Documents.{Document as Named}
 use Rattle.spec_decode.specs.Machine.{Machine}
-use Rattle.spec_lines.specs.Streams.{Bare, stream_lines}
+use Rattle.spec_lines.specs.Streams.{stream_lines}
 use Rattle.spec_lines.specs.ReadBack.{IsReadable}
-use Rattle.spec_command.specs.Commands.{Release, Configured, AskList, AskAsm}
+use Rattle.spec_command.specs.Commands.{Bare, Release, Configured, AskList, AskAsm}
 use Rattle.spec_command.specs.Request.{request}
 use Rattle.spec_run.specs.End.{Done}
 use Rattle.spec_run.specs.Assembling.{asm_outcome}
@@ -26,7 +26,7 @@ pub record AreInverse (list_words asm_words : List (List ℕ)) : Type 0 where
   pub asked : Configured
   pub list_limit : ℕ
   pub asm_limit : ℕ
-  pub lists : request list_words ≡ Ok (AskList release true list_limit asked)
+  pub lists : request list_words ≡ Ok (AskList release Bare list_limit asked)
   pub assembles : request asm_words ≡ Ok (AskAsm release asm_limit asked)
 
 -- where a stream is listed to its end in bare lines, these are assembled to the stream, within any limit in which they lie

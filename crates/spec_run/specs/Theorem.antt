@@ -1,7 +1,7 @@
 -- The listing theorem. For every accepted release, pins and words, unless memory, a read or a write fails: either the constraints'
 -- first configuration is used, and each word is listed with exactly the leaves that patterns and conditions along their paths do
 -- not exclude, a lone leaf's printed fields encoding to that word alone; or none exists, and a checked refutation is written.
-use Rattle.std.specs.Prelude.{◌≡◌, ◌≢◌, ◌⊎◌, ◌<◌, ◌≤◌, ◌*◌, ◌/◌, ◌%◌, ℕ, ℤ, Bool, false, List, [], ◌++◌, length, take, drop, slice_get, All, bytes_eq, Option, Some, None, Result, Ok}
+use Rattle.std.specs.Prelude.{◌≡◌, ◌≢◌, ◌⊎◌, ◌<◌, ◌≤◌, ◌*◌, ◌/◌, ◌%◌, ℕ, ℤ, Bool, List, [], ◌++◌, length, take, drop, slice_get, All, bytes_eq, Option, Some, None, Result, Ok}
 use Rattle.std.specs.Int.{w32, from_le_bytes}
 use Rattle.std.specs.List.{concat}
 use Rattle.serde_json.specs.Data.{Data}
@@ -22,9 +22,9 @@ use Rattle.spec_refutation.specs.Derivation.{Step}
 use Rattle.spec_refutation.specs.Refutation.{Refutes}
 use Rattle.spec_refutation.specs.LogReading.{log_in}
 use Rattle.spec_command.specs.Pins.{Pin}
-use Rattle.spec_command.specs.Commands.{Release, Configured, AskList}
+use Rattle.spec_command.specs.Commands.{Full, Release, Configured, AskList}
 use Rattle.spec_command.specs.Request.{request}
-use Rattle.spec_lines.specs.Streams.{Full, bytes_line}
+use Rattle.spec_lines.specs.Streams.{bytes_line}
 use Rattle.spec_run.specs.End.{End, Done, Ragged, Refuted, Limit, NoMemory, Input}
 use Rattle.spec_run.specs.Opening.{json_in, pinned, machine_by}
 use Rattle.spec_run.specs.First.{NamesBoolean, IsFirst}
@@ -55,7 +55,7 @@ pub record Accepted (words : List (List ℕ)) (s : Scene) (err : Writing) : Type
   pub release : Release
   pub max : ℕ
   pub asked : Configured
-  pub list : request words ≡ Ok (AskList release false max asked)
+  pub list : request words ≡ Ok (AskList release Full max asked)
   -- shelf, source and sinks tell what they hold, have left and have taken
   pub docs : List Named
   pub shelf_tells : s.shelf.documents ≡ Some docs

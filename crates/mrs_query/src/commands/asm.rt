@@ -11,7 +11,7 @@ use crate::ended::Ended;
 use crate::{QuestionFault, Status, Which};
 use asm_stream::assemble_stream;
 use list_words::{LineFault, Lister, push_reason};
-use mrs_command::{Configured, Release};
+use mrs_command::{Configured, Form, Release};
 use mrs_io::{Shelf, Sink, Source};
 use release_opening::{Opened, OpeningError, open_release};
 use std::alloc::{AllocError, Global};
@@ -56,7 +56,7 @@ fn assemble<S: Source, K: Sink>(
         (K.writing out.old) (K.writing out.new) result }
     ensures late { ¬ IsEarly (bare_end result.status) }
 {
-    let lister = opened.lister(true);
+    let lister = opened.lister(Form::Bare);
     let how = assemble_stream(alloc, &lister, max, input, out);
     assembled(alloc, &lister, how)
 }

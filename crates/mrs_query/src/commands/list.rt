@@ -1,7 +1,7 @@
 //! `list`: lists the words of the stream.
 ghost use Rattle.std.specs.Prelude.{◌≡◌, ◌≤◌, ◌^◌, [], length, IfOk, OnErr};
 ghost use Rattle.spec_command.specs.Commands.{AskList, pin_limit};
-ghost use Rattle.spec_lines.specs.Streams.{form_by};
+ghost use Rattle.line_form.specs.Forms.{form_of};
 ghost use Rattle.spec_run.specs.End.{IsEarly};
 ghost use Rattle.spec_run.specs.Work.{Reads};
 ghost use Rattle.spec_run.specs.Listing.{list_work};
@@ -15,7 +15,7 @@ ghost use Rattle.mrs_query.specs.Runs.{IsPlain};
 use crate::ended::Ended;
 use crate::{Status, Which};
 use list_stream::list_stream;
-use mrs_command::{Configured, Release};
+use mrs_command::{Configured, Form, Release};
 use mrs_io::{Shelf, Sink, Source};
 use release_opening::{Opened, OpeningError, open_release};
 use std::alloc::Global;
@@ -24,7 +24,7 @@ use std::alloc::Global;
 pub(crate) fn fulfil<V: Shelf, S: Source, K: Sink>(
     alloc: Global,
     release: Release<'_>,
-    bare: bool,
+    form: Form,
     max: u64,
     configured: Configured<'_>,
     shelf: &mut V,
@@ -33,7 +33,7 @@ pub(crate) fn fulfil<V: Shelf, S: Source, K: Sink>(
 ) -> Result<Ended, OpeningError>
     requires max { max ≤ 2 ^ 40 }
     requires few { length configured.pins ≤ pin_limit }
-    ensures fulfils { Fulfils (AskList (release_of release.entry) bare max (configured_of configured.entry)) (record {
+    ensures fulfils { Fulfils (AskList (release_of release.entry) (form_of form) max (configured_of configured.entry)) (record {
       shelf = V.shelving shelf.old;
       shelf_after = V.shelving shelf.new;
       input = S.reading input.old;
@@ -45,26 +45,26 @@ pub(crate) fn fulfil<V: Shelf, S: Source, K: Sink>(
     ensures unopened { OnErr result ((input.new ≡ input.old) × (out.new ≡ out.old)) }
 {
     let opened = open_release(alloc, shelf, release, configured)?;
-    let status = show_words(alloc, &opened, bare, max, input, out);
+    let status = show_words(alloc, &opened, form, max, input, out);
     Ok(Ended::plainly(alloc, status))
 }
 
-/// Lists the words of at most `max` bytes of the stream, in bare lines or in full ones.
+/// Lists the words of at most `max` bytes of the stream, in lines of that form.
 fn show_words<S: Source, K: Sink>(
     alloc: Global,
     opened: &Opened,
-    bare: bool,
+    form: Form,
     max: u64,
     input: &mut S,
     out: &mut K,
 ) -> Status
     requires { max ≤ 2 ^ 40 }
     ensures ran { Ran (S.reading input.old) (S.reading input.new) (K.writing out.old) (K.writing out.new)
-        (Reads (list_work (form_by bare) opened.now max)) (bare_end result) }
+        (Reads (list_work (form_of form) opened.now max)) (bare_end result) }
     ensures plain { IsPlain result }
     ensures late { ¬ IsEarly (bare_end result) }
 {
-    listed(list_stream(alloc, &opened.lister(bare), max, input, out))
+    listed(list_stream(alloc, &opened.lister(form), max, input, out))
 }
 
 /// The status of a listing that ended.

@@ -12,9 +12,9 @@ pub returns-in_err-opened-clause-fulfils : goal.returns-in_err-opened-clause-ful
 returns-in_err-opened-clause-fulfils g c =
     let e = c.in_err-opened in
     let p = err_from_is_err_and c.from_residual.result c.from_residual.ensures.1 in
-    rw (p.1, p.2) (not_opened _ (AskList (release_of c.args.release) c.args.bare c.args.max (configured_of c.args.configured)) e.field-0.0 e.ensures.opens e.ensures.named e.ensures.same e.ensures.later (record { input = refl; out = Keeps-refl _; count = refl }))
+    rw (p.1, p.2) (not_opened _ (AskList (release_of c.args.release) (form_of c.args.form) c.args.max (configured_of c.args.configured)) e.field-0.0 e.ensures.opens e.ensures.named e.ensures.same e.ensures.later (record { input = refl; out = Keeps-refl _; count = refl }))
 
 pub returns-clause-fulfils : goal.returns-clause-fulfils
 returns-clause-fulfils g c =
     let o = c.in_ok-opened in
-    work_done_plainly _ (AskList (release_of c.args.release) c.args.bare c.args.max (configured_of c.args.configured)) o.opened c.show_words-status.result c.plainly.result c.plainly.ensures c.show_words-status.ensures.plain o.ensures.opens o.ensures.same (late_of_work c.show_words-status.result Long [] c.show_words-status.ensures.late) c.show_words-status.ensures.ran
+    work_done_plainly _ (AskList (release_of c.args.release) (form_of c.args.form) c.args.max (configured_of c.args.configured)) o.opened c.show_words-status.result c.plainly.result c.plainly.ensures c.show_words-status.ensures.plain o.ensures.opens o.ensures.same (late_of_work c.show_words-status.result Long [] c.show_words-status.ensures.late) c.show_words-status.ensures.ran
