@@ -11,7 +11,7 @@ use Rattle.spec_lines.specs.Reasons as text
 use Rattle.spec_lines.specs.Way.{Way}
 use Rattle.mrs_arena.specs.Paths.{ancestors}
 use Rattle.mrs_arena.specs.Nodes.{parents_of}
-use Rattle.mrs_arena.specs.Placed.{own_at, path_to, no_own}
+use Rattle.mrs_arena.specs.Placed.{own_at, no_own}
 use Rattle.insn_tree.specs.Trees.{TreeParts}
 use Rattle.ast_eval.specs.Choices.{Choices}
 use Rattle.insn_encode.specs.declared.fault.EncodeFault.{EncodeFault}

@@ -1,9 +1,8 @@
 -- Tokens by the runs of bytes that stand in front.
 use Rattle.std.proofs.Common.{◌≡◌, ◌∙◌, ap, sym, refl, subst, ℕ, zero, suc, ◌+◌, ◌-◌, ◌≤◌, ◌<◌, List, [], ◌∷◌, length, take, drop, Bool, true, false, ◌==◌, cond, arith, add-one, add-zero, length-drop}
 use Rattle.std.proofs.Math.ListN.{drop_of_length-le}
-use Rattle.std.proofs.lemmas.Bool.Decides.{nat_tests}
 use Rattle.spec_lines.proofs.TokenLaws.{are_from, apart, joins}
-use Rattle.spec_lines.specs.Token.{Token, joined_to, tokens_from}
+use Rattle.spec_lines.specs.Token.{joined_to, tokens_from}
 use Rattle.list_words.specs.Scans.{blanks, run}
 
 pub drop-drop : {X : Type 0} (n k : ℕ) (xs : List X) → drop k (drop n xs) ≡ drop (n + k) xs

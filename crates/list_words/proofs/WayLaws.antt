@@ -1,9 +1,7 @@
 -- Leaves and aliases of a tree as those of its machine.
-use Rattle.std.proofs.Common.{◌≡◌, ◌∙◌, sym, ap, refl, subst, ℕ, ◌<◌, List, [], length, Option, option_map, get_or}
-use Rattle.std.specs.Prelude.{slice_index_or}
+use Rattle.std.proofs.Common.{◌≡◌, sym, refl, subst, ℕ, ◌<◌, List, [], length}
 use Rattle.std.proofs.lemmas.List.{get_or-map, length-map}
-use Rattle.spec_instructions.specs.Aliases.{alias_path, alias_paths}
-use Rattle.spec_decode.specs.Preferred.{preferred}
+use Rattle.spec_instructions.specs.Aliases.{alias_path}
 use Rattle.spec_lines.specs.Way as spec
 use Rattle.spec_lines.specs.Way.{way_path, way_label}
 use Rattle.mrs_arena.specs.Flat.{FlatNode}

@@ -5,8 +5,8 @@ use ast_eval::Config;
 use insn_alias::preferred;
 use insn_decode::{Candidates, Decider, Found};
 use insn_encode::{EncodeFault, Shown, encode_along, rest_along, shown_along};
-use line_form::Form;
 use insn_tree::{FieldRange, LabelRef, LeafId, PathId, Tree};
+use line_form::Form;
 use mrs_names::{NameId, Names};
 
 /// The tree of a set of instructions with its decider, the names that it was made with, a configuration, and the form of

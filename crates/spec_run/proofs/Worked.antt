@@ -1,5 +1,5 @@
 -- Worked values: command lines, documents that are refused, and what runs put out.
-use Rattle.std.specs.Prelude.{◌≡◌, [], ◌∷◌, false, Ok, Err, Result, codes, refl, ℕ, List, ◌++◌}
+use Rattle.std.specs.Prelude.{◌≡◌, [], ◌∷◌, Ok, Err, Result, codes, refl, ℕ, List, ◌++◌}
 use Rattle.std.specs.Fmt.{digits}
 use Rattle.serde_json.specs.Read.{read}
 use Rattle.serde_json.proofs.OnLiterals.{serde_json_on_literals}

@@ -1,4 +1,4 @@
-use Rattle.std.proofs.Common.{◌≡◌, sym, subst, ◌<◌, length}
+use Rattle.std.proofs.Common.{subst, ◌<◌}
 use Rattle.std.proofs.lemmas.List.{length-map}
 use Rattle.mrs_arena.specs.Placed.{path_to, leaves_of}
 use Rattle.spec_lines.proofs.EncodedLaws.{lone_is}
