@@ -1,17 +1,16 @@
 -- What becomes of lines and pieces, from what becomes of their parts.
 use Rattle.std.proofs.Common.{◌≡◌, ℕ, zero, suc, ◌+◌, ◌<◌, ◌≤◌, Bool, true, List, [], ◌∷◌, ◌++◌, length, take, drop, get_or, Some, None, Result, Ok, Err, inl, inr, refl, sym, ap, ◌∙◌, subst, arith, append-nil, append_assoc}
 use Rattle.std.specs.Prelude.{◌==◌, slice_index}
-use Rattle.std.specs.Io.KnownBytes.{Appends, Consumes, Keeps, IsAtEnd}
+use Rattle.std.specs.Io.KnownBytes.{Appends}
 use Rattle.memchr.specs.Find.{NoneBefore, Passes, is_byte}
-use Rattle.spec_io.specs.Faults.{Rose}
-use Rattle.spec_io.specs.States.{Reading, Writing}
+use Rattle.spec_io.specs.States.{Writing}
 use Rattle.spec_decode.specs.Machine.{Machine}
 use Rattle.spec_lines.specs.Assembly.{BadLine, assembled_from}
 use Rattle.list_words.specs.Listers.{machine}
 use Rattle.list_words.specs.declared.lister.Lister.{Lister}
 use Rattle.asm_stream.specs.Lines.{HasNoEnd, LineGives}
 use Rattle.asm_stream.specs.SoFar.{SoFar, Refuses, Reaches, Takes}
-use Rattle.asm_stream.specs.Pieces.{Wrote, IsWritten, Before, Fronts, PieceEnds, StopCause, LastLine}
+use Rattle.asm_stream.specs.Pieces.{Wrote, IsWritten, Before, Fronts, PieceEnds, LastLine}
 use Rattle.asm_stream.specs.declared.assembly.Assembly.{Assembly}
 use Rattle.asm_stream.specs.declared.stop.Stop.{Stop}
 use Rattle.asm_stream.specs.declared.stop.Stop.TheVariants as stop
@@ -53,7 +52,6 @@ ended_stops lister a a1 line (stop.Line number fault) none h = (
   λ done before so_far. rw h.3 (line_refused (machine lister) done a.number a.left.items (before ++ a.words.items) so_far line h.0 none h.2),
 )
 ended_stops lister a a1 line stop.Memory none h = tt
-ended_stops lister a a1 line stop.Input none h = absurd h
 ended_stops lister a a1 line stop.Output none h = absurd h
 
 -- ---- lines behind lines
@@ -71,7 +69,6 @@ module _ (lister : Lister) (a a1 a2 : Assembly) (taken piece bytes : List ℕ) (
         rw all (refusal_stays (machine lister) ((done ++ taken) ++ piece) more h.0 (before ++ a2.words.items) (h.2 (done ++ taken) before (first done before so_far))),
   )
   stops_within more stop.Memory e h = tt
-  stops_within more stop.Input e h = absurd h
   stops_within more stop.Output e h = absurd h
 
   pub takes_rest : (r : Result (Unit {0}) Stop) → bytes ≡ taken ++ piece → Takes lister a1 a2 piece r → Takes lister a a2 bytes r
@@ -85,7 +82,6 @@ module _ (lister : Lister) (a : Assembly) (out out1 : Writing) (words : List ℕ
   last_part (Ok u) h written = h.2 ∙ sym (ap (λ x. x.bytes) h.1)
   last_part (Err (stop.Line number fault)) h written = h.3 ∙ sym (ap (λ x. x.bytes) h.2)
   last_part (Err stop.Memory) h written = absurd written
-  last_part (Err stop.Input) h written = absurd written
   last_part (Err stop.Output) h written = absurd written
 
   pub last_line : (judged result : Result (Unit {0}) Stop) → LineGives lister a.number a.left.items [] words judged → Wrote out out1 words judged result → LastLine lister a out out1 result
@@ -97,7 +93,6 @@ module _ (lister : Lister) (a : Assembly) (out out1 : Writing) (words : List ℕ
       (h.0, h.1, h.2, subst (Appends out.taken out1.taken) h.3 wrote.1)
   last_line judged (Err stop.Memory) gives wrote = wrote
   last_line judged (Err stop.Output) gives wrote = (wrote.1, rw (← last_part judged gives wrote.0) wrote.2)
-  last_line judged (Err stop.Input) gives wrote = absurd wrote
 
   pub last_line_from : (left first told : List ℕ) (judged result : Result (Unit {0}) Stop) → left ≡ a.left.items → first ≡ [] → told ≡ words → LineGives lister a.number left first words judged → Wrote out out1 told judged result → LastLine lister a out out1 result
   last_line_from left first told judged result el ef et gives wrote =
@@ -105,9 +100,8 @@ module _ (lister : Lister) (a : Assembly) (out out1 : Writing) (words : List ℕ
 
 -- ---- one piece
 
-module _ (lister : Lister) (a cleared a1 : Assembly) (room : ℕ) (input input1 : Reading) (out out1 : Writing) (buffer : List ℕ) (n : ℕ)
-    (number_is : cleared.number ≡ a.number) (left_is : cleared.left.items ≡ a.left.items) (words_are : cleared.words.items ≡ [])
-    (fits : n ≤ room) (size : length (take n buffer) ≡ n) (read : Consumes input.left input1.left (take n buffer)) where
+module _ (lister : Lister) (a cleared a1 : Assembly) (piece : List ℕ) (out out1 : Writing)
+    (number_is : cleared.number ≡ a.number) (left_is : cleared.left.items ≡ a.left.items) (words_are : cleared.words.items ≡ []) where
   abbrev m : Machine
   m = machine lister
 
@@ -115,56 +109,25 @@ module _ (lister : Lister) (a cleared a1 : Assembly) (room : ℕ) (input input1 
   before_clear : (done before : List ℕ) → SoFar m done a.number a.left.items before → SoFar m done cleared.number cleared.left.items (before ++ cleared.words.items)
   before_clear done before s = rw (number_is, left_is, words_are, append-nil before) s
 
-  pub piece_stopped : (judged : Result (Unit {0}) Stop) (s : Stop) → Takes lister cleared a1 (take n buffer) judged → Wrote out out1 a1.words.items judged (Err s) → PieceEnds lister a a1 room input input1 out out1 buffer (Err s)
-  piece_stopped judged stop.Input takes wrote = absurd wrote
-  piece_stopped judged stop.Memory takes wrote = record { bytes = take n buffer; fits = omega (arith, size); read = read; nothing = wrote }
-  piece_stopped judged (stop.Line number fault) takes wrote =
-      let h = subst (Takes lister cleared a1 (take n buffer)) wrote.0 takes in record {
-        bytes = take n buffer;
-        fits = omega (arith, size);
-        read = read;
+  fronts : (judged : Result (Unit {0}) Stop) → Takes lister cleared a1 piece judged → IsWritten judged → Before m a (λ done before. Fronts m (done ++ piece) (before ++ a1.words.items))
+  fronts (Ok u) takes written = λ done before s. inl (a1.number, a1.left.items, takes done before (before_clear done before s))
+  fronts (Err (stop.Line number fault)) takes written = λ done before s. inr (takes.0, takes.2 done before (before_clear done before s))
+  fronts (Err stop.Memory) takes written = absurd written
+  fronts (Err stop.Output) takes written = absurd written
+
+  piece_ends : (judged result : Result (Unit {0}) Stop) → Takes lister cleared a1 piece judged → Wrote out out1 a1.words.items judged result → PieceEnds lister a a1 piece out out1 result
+  piece_ends judged (Ok u) takes wrote =
+      let h = subst (Takes lister cleared a1 piece) wrote.0 takes in record { words = a1.words.items; wrote = wrote.1; reaches = λ done before s. h done before (before_clear done before s) }
+  piece_ends judged (Err stop.Memory) takes wrote = wrote
+  piece_ends judged (Err (stop.Line number fault)) takes wrote =
+      let h = subst (Takes lister cleared a1 piece) wrote.0 takes in record {
         words = a1.words.items;
         wrote = wrote.1;
         bad = h.0;
         is = h.1;
         refuses = λ done before s. h.2 done before (before_clear done before s);
       }
-  piece_stopped judged stop.Output takes wrote = record {
-    bytes = take n buffer;
-    fits = omega (arith, size);
-    read = read;
-    words = a1.words.items;
-    part = wrote.2;
-    fronts = fronts judged takes wrote.0;
-  }
-    where
-      fronts : (judged : Result (Unit {0}) Stop) → Takes lister cleared a1 (take n buffer) judged → IsWritten judged → Before m a (λ done before. Fronts m (done ++ take n buffer) (before ++ a1.words.items))
-      fronts (Ok u) takes written = λ done before s. inl (a1.number, a1.left.items, takes done before (before_clear done before s))
-      fronts (Err (stop.Line number fault)) takes written = λ done before s. inr (takes.0, takes.2 done before (before_clear done before s))
-      fronts (Err stop.Memory) takes written = absurd written
-      fronts (Err stop.Input) takes written = absurd written
-      fronts (Err stop.Output) takes written = absurd written
+  piece_ends judged (Err stop.Output) takes wrote = record { words = a1.words.items; cause = wrote.1; part = wrote.2; fronts = fronts judged takes wrote.0 }
 
-  pub piece_taken : (judged : Result (Unit {0}) Stop) (u : Unit {0}) → (n < room → IsAtEnd input1.left) → Takes lister cleared a1 (take n buffer) judged → Wrote out out1 a1.words.items judged (Ok u) → PieceEnds lister a a1 room input input1 out out1 buffer (Ok n)
-  piece_taken judged u end takes wrote =
-      let h = subst (Takes lister cleared a1 (take n buffer)) wrote.0 takes in record {
-        fits = fits;
-        read = read;
-        end = end;
-        words = a1.words.items;
-        wrote = wrote.1;
-        reaches = λ done before s. h done before (before_clear done before s);
-      }
-
-  pub piece_stopped_from : (told : List ℕ) (judged : Result (Unit {0}) Stop) (s : Stop) → told ≡ a1.words.items → Takes lister cleared a1 (take n buffer) judged → Wrote out out1 told judged (Err s) → PieceEnds lister a a1 room input input1 out out1 buffer (Err s)
-  piece_stopped_from told judged s e takes wrote = piece_stopped judged s takes (subst (λ t. Wrote out out1 t judged (Err s)) e wrote)
-
-  pub piece_taken_from : (told : List ℕ) (judged : Result (Unit {0}) Stop) (u : Unit {0}) → told ≡ a1.words.items → (n < room → IsAtEnd input1.left) → Takes lister cleared a1 (take n buffer) judged → Wrote out out1 told judged (Ok u) → PieceEnds lister a a1 room input input1 out out1 buffer (Ok n)
-  piece_taken_from told judged u e end takes wrote = piece_taken judged u end takes (subst (λ t. Wrote out out1 t judged (Ok u)) e wrote)
-
--- the causes of faults of what is written
-pub wrote_cause : (input input1 : Reading) (out out1 : Writing) (words : List ℕ) (judged : Result (Unit {0}) Stop) (s : Stop) → Wrote out out1 words judged (Err s) → StopCause input input1 out out1 (Err s)
-wrote_cause input input1 out out1 words judged stop.Output wrote = wrote.1
-wrote_cause input input1 out out1 words judged stop.Input wrote = absurd wrote
-wrote_cause input input1 out out1 words judged stop.Memory wrote = tt
-wrote_cause input input1 out out1 words judged (stop.Line number fault) wrote = tt
+  pub piece_ends_from : (told : List ℕ) (judged result : Result (Unit {0}) Stop) → told ≡ a1.words.items → Takes lister cleared a1 piece judged → Wrote out out1 told judged result → PieceEnds lister a a1 piece out out1 result
+  piece_ends_from told judged result e takes wrote = piece_ends judged result takes (subst (λ t. Wrote out out1 t judged result) e wrote)

@@ -1,5 +1,5 @@
 -- From one piece of the stream to the whole: what was read and what went out so far, and how the assembly ends.
-use Rattle.std.proofs.Common.{◌≡◌, ◌⊎◌, ℕ, ◌+◌, ◌<◌, ◌≤◌, List, [], ◌∷◌, ◌++◌, length, take, Some, None, Result, Ok, Err, inl, inr, refl, sym, ap, ◌∙◌, subst, arith, append-nil, append_assoc, length-append, length-take}
+use Rattle.std.proofs.Common.{◌≡◌, ◌⊎◌, ℕ, ◌+◌, ◌<◌, ◌≤◌, ◌^◌, List, [], ◌∷◌, ◌++◌, length, take, Some, None, Result, Ok, Err, inl, inr, refl, sym, ap, ◌∙◌, subst, arith, append-nil, append_assoc, length-append, length-take}
 use Rattle.std.proofs.Math.Seq.{take-append-add, take-append_seam}
 use Rattle.std.specs.Io.KnownBytes.{Appends, Consumes, Keeps, IsAtEnd}
 use Rattle.std.proofs.KnownBytes.{Appends-nil, Appends-trans, Appends-kept, Keeps-refl, Consumes-nil, Consumes-trans, Consumes-whole}
@@ -18,14 +18,16 @@ use Rattle.spec_run.specs.Ran.{Ran, Broke}
 use Rattle.spec_run.proofs.Assembling.{asm_whole, asm_refused, asm_cut_off, asm_fits}
 use Rattle.spec_run.proofs.Told.{OfPart, Listed, prefix_told, short_told, prefix_of, stream_behind, whole_told}
 use Rattle.mrs_io.proofs.Causes.{Rose-earlier}
-use Rattle.list_stream.specs.Pieces.{Looked}
-use Rattle.list_stream.specs.declared.piece.Look.TheVariants as look
+use Rattle.stream_pieces.specs.Reached.{Begins, Reached, TakesPiece, ReadsAll, Comes, piece_of}
+use Rattle.stream_pieces.specs.declared.pieces.Pieces.{Pieces}
+use Rattle.stream_pieces.specs.declared.pieces.Next.TheVariants as next
+use Rattle.stream_pieces.proofs.Steps.{reached_start}
 use Rattle.list_words.specs.Listers.{machine}
 use Rattle.list_words.specs.declared.lister.Lister.{Lister}
 use Rattle.asm_stream.specs.Lines.{IsBad}
 use Rattle.asm_stream.specs.SoFar.{SoFar, Refuses}
-use Rattle.asm_stream.specs.Pieces.{Before, Fronts, PieceTaken, PieceEnds, PieceCause, LastLine}
-use Rattle.asm_stream.specs.Progress.{Progress}
+use Rattle.asm_stream.specs.Pieces.{Fronts, PieceEnds, LastLine}
+use Rattle.asm_stream.specs.Progress.{Progress, HasNumber, GoesOn}
 use Rattle.asm_stream.specs.Endings.{refusal, stopped_by, ended_by}
 use Rattle.asm_stream.specs.Assembles.{Assembles}
 use Rattle.asm_stream.specs.declared.assembly.Assembly.{Assembly}
@@ -38,41 +40,26 @@ module _ (lister : Lister) where
   abbrev m : Machine
   m = machine lister
 
-  pub progress_start : (a : Assembly) (r : Reading) (w : Writing) → a.number ≡ 1 → a.left.items ≡ [] → Progress lister a r r w w 0
-  progress_start a r w first none = record {
-    done = [];
-    size_is = refl;
-    read = Consumes-nil r.left;
-    bytes = [];
-    wrote = Appends-nil w.taken;
-    so_far = rw (first, none) (so_far_start m);
-  }
-
-  pub progress_next : (a a1 : Assembly) (r0 r r1 : Reading) (w0 w w1 : Writing) (size n : ℕ) (buffer : List ℕ) → length buffer ≤ n → Progress lister a r0 r w0 w size → PieceTaken lister a a1 (length buffer) r r1 w w1 buffer n
-      → Progress lister a1 r0 r1 w0 w1 (size + length buffer)
-  progress_next a a1 r0 r r1 w0 w w1 size n buffer full p h = record {
-    done = p.done ++ take n buffer;
-    size_is = let fits : n ≤ length buffer = h.fits in simp (length-append, length-take) (omega (arith, p.size_is));
-    read = Consumes-trans r0.left r.left r1.left p.done _ p.read h.read;
-    bytes = p.bytes ++ h.words;
-    wrote = Appends-trans w0.taken w.taken w1.taken _ _ p.wrote h.wrote;
-    so_far = h.reaches p.done p.bytes p.so_far;
-  }
-
-  -- the same where the piece is short
-  pub progress_short : (a a1 : Assembly) (r0 r r1 : Reading) (w0 w w1 : Writing) (size n : ℕ) (buffer : List ℕ) → Progress lister a r0 r w0 w size → PieceTaken lister a a1 (length buffer) r r1 w w1 buffer n → Progress lister a1 r0 r1 w0 w1 (size + n)
-  progress_short a a1 r0 r r1 w0 w w1 size n buffer p h = record {
-    done = p.done ++ take n buffer;
-    size_is = let fits : n ≤ length buffer = h.fits in simp (length-append, length-take) (omega (arith, p.size_is));
-    read = Consumes-trans r0.left r.left r1.left p.done _ p.read h.read;
-    bytes = p.bytes ++ h.words;
-    wrote = Appends-trans w0.taken w.taken w1.taken _ _ p.wrote h.wrote;
-    so_far = h.reaches p.done p.bytes p.so_far;
-  }
+  pub progress_start : (limit : ℕ) (a : Assembly) (r : Reading) (w : Writing) (p : Pieces) → a.number ≡ 1 → a.left.items ≡ [] → Begins limit p → Progress lister limit r r w w p a
+  progress_start limit a r w p first none b =
+      let no_piece : piece_of p ≡ [] = ap (λ n. take n p.buffer.items) b.filled in
+      record {
+        front = [];
+        reached = reached_start limit r p b;
+        bytes = [];
+        wrote = Appends-nil w.taken;
+        so_far = subst (λ (piece : List ℕ). SoFar m ([] ++ piece) a.number a.left.items []) (sym no_piece) (rw (first, none) (so_far_start m));
+        later = omega arith;
+      }
 
   -- lines are no more than bytes
-  pub few_lines : (a : Assembly) (r0 r : Reading) (w0 w : Writing) (size : ℕ) → Progress lister a r0 r w0 w size → a.number ≤ size + 1
-  few_lines a r0 r w0 w size p = omega (arith, p.size_is, p.so_far.number_is, whole_count p.done)
+  pub number_of : (limit : ℕ) (a : Assembly) (r0 r : Reading) (w0 w : Writing) (p : Pieces) → limit ≤ 2 ^ 40 → Progress lister limit r0 r w0 w p a → HasNumber p a
+  number_of limit a r0 r w0 w p few h =
+      let size : length (piece_of p) ≡ p.filled = omega (arith, length-take p.filled p.buffer.items, h.reached.room, h.reached.filled) in
+      record {
+        room = record { size = h.reached.room; filled = h.reached.filled };
+        small = omega (arith, length-append h.front (piece_of p), size, h.reached.size, h.so_far.number_is, whole_count (h.front ++ piece_of p));
+      }
 
   module _ (limit : ℕ) where
     abbrev work : Over
@@ -108,205 +95,194 @@ module _ (lister : Lister) where
         let e = asm_refused m limit xs stream.0 bad le (ap (λ a. a.refused) is) in
         (xs ++ stream.0, stream.1, (ap (λ o. o.end) e, subst (Appends w0.taken w1.taken) (sym (ap (λ o. o.out) e ∙ ap (λ a. a.bytes) is)) wrote))
 
-    -- ---- a piece that stops
+    -- ---- one more piece
 
-    module _ (a a1 : Assembly) (r0 r r1 : Reading) (w0 w w1 : Writing) (size : ℕ) (p : Progress lister a r0 r w0 w size) where
-      few_bytes : (bytes : List ℕ) → Consumes r.left r1.left bytes → size + length bytes ≤ limit + 1 → ReadsAtMost r0 r1 (limit + 1)
-      few_bytes bytes read few = record {
-        bytes = p.done ++ bytes;
-        taken = Consumes-trans r0.left r.left r1.left p.done bytes p.read read;
-        few = simp length-append (omega (arith, p.size_is));
-      }
+    module _ (a a1 : Assembly) (r0 r r1 : Reading) (w0 w w1 : Writing) (p p1 : Pieces) (h : Progress lister limit r0 r w0 w p a) where
+      few_bytes : TakesPiece limit r0 r1 p p1 h.front → length ((h.front ++ piece_of p) ++ piece_of p1) ≤ limit
+      few_bytes t =
+          let size : length (piece_of p1) ≡ p1.filled = omega (arith, length-take p1.filled p1.buffer.items, t.reached.room, t.reached.filled) in
+          omega (arith, length-append (h.front ++ piece_of p) (piece_of p1), size, t.reached.size)
 
-      input_broke : (bytes : List ℕ) → size ≤ limit → r0.faults ≤ r.faults → Rose r.faults r1.faults → Consumes r.left r1.left bytes → Keeps w.taken w1.taken → Broke r0 r1 w0 w1 work
-      input_broke bytes few le rose read kept = record {
-        cause = Rose-earlier r0.faults r.faults r1.faults le rose;
-        read = p.done ++ bytes;
-        was_read = Consumes-trans r0.left r.left r1.left p.done bytes p.read read;
-        front = length p.done;
-        within = omega (arith, p.size_is);
-        lines =
-            let e : (assembled_from 1 m (cut (take (length p.done) (p.done ++ bytes))).whole).bytes ≡ p.bytes = ap (λ xs. (assembled_from 1 m (cut xs).whole).bytes) (take-append_seam p.done bytes) ∙ ap (λ a. a.bytes) p.so_far.words in
-            subst (Appends w0.taken w1.taken) (sym e) (Appends-kept w0.taken w.taken w1.taken _ p.wrote kept);
-      }
+      reads_piece : TakesPiece limit r0 r1 p p1 h.front → ReadsAtMost r0 r1 (limit + 1)
+      reads_piece t = record { bytes = (h.front ++ piece_of p) ++ piece_of p1; taken = t.reached.read; few = omega (arith, few_bytes t) }
 
-      pub stopped : (buffer : List ℕ) (s : Stop) → size + length buffer ≤ limit → r0.faults ≤ r.faults → w0.faults ≤ w.faults
-          → PieceEnds lister a a1 (length buffer) r r1 w w1 buffer (Err s) → PieceCause r r1 w w1 (Err s) → Assembles lister limit r0 r1 w0 w1 (stopped_by s)
-      stopped buffer stop.Input room il ol h cause = record {
-        end = run.ReadFault run.Input;
-        is = refl;
-        ran = record {
-          meaning = input_broke h.bytes (omega arith) il cause.cause h.read h.nothing;
-          reading = few_bytes h.bytes h.read (omega (arith, h.fits));
-          input_count = omega (arith, cause.input_later);
-          out_count = omega (arith, cause.out_later);
-        };
-      }
-      stopped buffer stop.Memory room il ol h cause = record {
+      pub piece_taken : w.faults ≤ w1.faults → Comes limit r0 r1 p p1 h.front next.Piece → PieceEnds lister a a1 (piece_of p1) w w1 (Ok tt) → GoesOn lister limit r0 r1 w0 w1 p p1 a1 None
+      piece_taken later t e = (
+        record {
+          front = h.front ++ piece_of p;
+          reached = t.reached;
+          bytes = h.bytes ++ e.words;
+          wrote = Appends-trans w0.taken w.taken w1.taken _ _ h.wrote e.wrote;
+          so_far = e.reaches (h.front ++ piece_of p) h.bytes h.so_far;
+          later = omega (arith, h.later);
+        },
+        t.less,
+      )
+
+      pub piece_stopped : (s : Stop) → w.faults ≤ w1.faults → Comes limit r0 r1 p p1 h.front next.Piece → PieceEnds lister a a1 (piece_of p1) w w1 (Err s) → Assembles lister limit r0 r1 w0 w1 (stopped_by s)
+      piece_stopped stop.Memory later t e = record {
         end = run.NoMemory;
         is = refl;
         ran = record {
           meaning =
-              let some : Appends w.taken w1.taken [] = Appends-kept w.taken w.taken w1.taken [] (Appends-nil w.taken) h.nothing in
+              let some : Appends w.taken w1.taken [] = Appends-kept w.taken w.taken w1.taken [] (Appends-nil w.taken) e in
               prefix_told work r0 w0 w1
-              (part_out r0 r1 w0 w w1 (p.done ++ h.bytes) p.done h.bytes p.bytes [] 0 0 refl (Consumes-trans r0.left r.left r1.left p.done h.bytes p.read h.read) (omega (arith, p.size_is))
-              (inl (a.number, a.left.items, rw (append-nil p.bytes) p.so_far)) p.wrote (omega arith) some);
-          reading = few_bytes h.bytes h.read (omega (arith, h.fits));
-          input_count = omega (arith, cause.input_later);
-          out_count = omega (arith, cause.out_later);
+              (part_out r0 r1 w0 w w1 ((h.front ++ piece_of p) ++ piece_of p1) (h.front ++ piece_of p) (piece_of p1) h.bytes [] 0 0 refl t.reached.read (omega (arith, few_bytes t, length-append (h.front ++ piece_of p) (piece_of p1)))
+              (inl (a.number, a.left.items, rw (append-nil h.bytes) h.so_far)) h.wrote (omega arith) some);
+          reading = reads_piece t;
+          input_count = t.reached.later;
+          out_count = omega (arith, h.later);
         };
       }
-      stopped buffer stop.Output room il ol h cause = record {
+      piece_stopped stop.Output later t e = record {
         end = run.WriteFault;
         is = refl;
         ran = record {
           meaning = (
-            Rose-earlier w0.faults w.faults w1.faults ol cause.cause,
+            Rose-earlier w0.faults w.faults w1.faults h.later e.cause,
             short_told work r0 w0 w1
-                (part_out r0 r1 w0 w w1 (p.done ++ h.bytes) (p.done ++ h.bytes) [] p.bytes h.words h.part.count 1 (sym (append-nil _)) (Consumes-trans r0.left r.left r1.left p.done h.bytes p.read h.read)
-                (simp length-append (omega (arith, p.size_is, h.fits))) (h.fronts p.done p.bytes p.so_far) p.wrote (omega (arith, h.part.short)) h.part.front),
+                (part_out r0 r1 w0 w w1 ((h.front ++ piece_of p) ++ piece_of p1) ((h.front ++ piece_of p) ++ piece_of p1) [] h.bytes e.words e.part.count 1 (sym (append-nil _)) t.reached.read
+                (few_bytes t) (e.fronts (h.front ++ piece_of p) h.bytes h.so_far) h.wrote (omega (arith, e.part.short)) e.part.front),
           );
-          reading = few_bytes h.bytes h.read (omega (arith, h.fits));
-          input_count = omega (arith, cause.input_later);
-          out_count = omega (arith, cause.out_later);
+          reading = reads_piece t;
+          input_count = t.reached.later;
+          out_count = omega (arith, h.later);
         };
       }
-      stopped buffer (stop.Line number fault) room il ol h cause = record {
-        end = refusal lister h.bad;
-        is = (h.bad, h.is, refl);
+      piece_stopped (stop.Line number fault) later t e = record {
+        end = refusal lister e.bad;
+        is = (e.bad, e.is, refl);
         ran = record {
-          meaning = refused_out r0 r1 w0 w1 (p.done ++ h.bytes) (p.bytes ++ h.words) h.bad (Consumes-trans r0.left r.left r1.left p.done h.bytes p.read h.read)
-              (simp length-append (omega (arith, p.size_is, h.fits))) (h.refuses p.done p.bytes p.so_far) (Appends-trans w0.taken w.taken w1.taken _ _ p.wrote h.wrote);
-          reading = few_bytes h.bytes h.read (omega (arith, h.fits));
-          input_count = omega (arith, cause.input_later);
-          out_count = omega (arith, cause.out_later);
+          meaning = refused_out r0 r1 w0 w1 ((h.front ++ piece_of p) ++ piece_of p1) (h.bytes ++ e.words) e.bad t.reached.read
+              (few_bytes t) (e.refuses (h.front ++ piece_of p) h.bytes h.so_far) (Appends-trans w0.taken w.taken w1.taken _ _ h.wrote e.wrote);
+          reading = reads_piece t;
+          input_count = t.reached.later;
+          out_count = omega (arith, h.later);
         };
       }
 
-    -- ---- the end of the stream
+      -- the same where the piece is given by another
+      pub next_taken : (piece : List ℕ) → piece ≡ piece_of p1 → w.faults ≤ w1.faults → Comes limit r0 r1 p p1 h.front next.Piece → PieceEnds lister a a1 piece w w1 (Ok tt) → GoesOn lister limit r0 r1 w0 w1 p p1 a1 None
+      next_taken piece ep later t e = piece_taken later t (subst (λ (xs : List ℕ). PieceEnds lister a a1 xs w w1 (Ok tt)) ep e)
 
-    module _ (a : Assembly) (r0 r1 : Reading) (w0 w1 w2 : Writing) (size : ℕ) (p : Progress lister a r0 r1 w0 w1 size) (le : size ≤ limit) (at_end : IsAtEnd r1.left) where
-      abbrev last : Assembled
-      last = assembled_from a.number m (a.left.items ∷ [])
+      pub next_stopped : (piece : List ℕ) (s : Stop) → piece ≡ piece_of p1 → w.faults ≤ w1.faults → Comes limit r0 r1 p p1 h.front next.Piece → PieceEnds lister a a1 piece w w1 (Err s) → Assembles lister limit r0 r1 w0 w1 (stopped_by s)
+      next_stopped piece s ep later t e = piece_stopped s later t (subst (λ (xs : List ℕ). PieceEnds lister a a1 xs w w1 (Err s)) ep e)
 
-      whole_is : asm_outcome m limit p.done ≡ assembly_outcome m run.Done (followed None p.bytes last)
-      whole_is = asm_whole m limit p.done (omega (arith, p.size_is)) ∙ ap (assembly_outcome m run.Done) (all_lines m p.done a.number a.left.items p.bytes p.so_far)
+      -- ---- a byte follows the limit, or the source failed
 
-      few : ReadsAtMost r0 r1 (limit + 1)
-      few = record { bytes = p.done; taken = p.read; few = omega (arith, p.size_is) }
-
-      told_end : (end : run.End) (out : List ℕ) → assembly_outcome m run.Done (followed None p.bytes last) ≡ record { end = end; out = out } → Appends w0.taken w2.taken out → Listed work r0 w0 w2 end
-      told_end end out e wrote =
-          let all = whole_is ∙ e in
-          whole_told work r0 r1 w0 w2 p.done end p.read at_end (ap (λ o. o.end) all) (subst (Appends w0.taken w2.taken) (sym (ap (λ o. o.out) all)) wrote)
-
-      part_end : (n d : ℕ) → n + d ≤ length last.bytes → Appends w1.taken w2.taken (take n last.bytes) → OfPart work d r0 w0 w2
-      part_end n d few out =
-          let e : (asm_outcome m limit p.done).out ≡ p.bytes ++ last.bytes = ap (λ o. o.out) whole_is in
-          let l : length p.bytes + n + d ≤ length (asm_outcome m limit p.done).out = omega (arith, ap length e, length-append p.bytes last.bytes) in
-          let text : take (length p.bytes + n) (asm_outcome m limit p.done).out ≡ p.bytes ++ take n last.bytes = ap (take (length p.bytes + n)) e ∙ take-append-add p.bytes last.bytes n in
-          let same = Consumes-whole r0.left r1.left p.done (λ bytes. bytes ≡ p.done) p.read at_end refl in
-          (p.done, same, (length p.bytes + n, l, subst (Appends w0.taken w2.taken) (sym text) (Appends-trans w0.taken w1.taken w2.taken p.bytes _ p.wrote out)))
-
-      pub finished : (s : Result (Unit {0}) Stop) → r0.faults ≤ r1.faults → w0.faults ≤ w1.faults → w1.faults ≤ w2.faults → LastLine lister a w1 w2 s → Assembles lister limit r0 r1 w0 w2 (ended_by s)
-      finished (Ok u) il ol later h = record {
-        end = run.Done;
-        is = refl;
-        ran = record {
-          meaning = (
-            told_end run.Done (p.bytes ++ h.0) (ap (λ x. assembly_outcome m run.Done (followed None p.bytes x)) h.1) (Appends-trans w0.taken w1.taken w2.taken _ _ p.wrote h.2),
-            at_end,
-          );
-          reading = few;
-          input_count = il;
-          out_count = omega arith;
-        };
-      }
-      finished (Err (stop.Line number fault)) il ol later h = record {
-        end = refusal lister h.0;
-        is = (h.0, h.1, refl);
-        ran = record {
-          meaning =
-              told_end (refusal lister h.0) (p.bytes ++ []) (ap (λ x. assembly_outcome m run.Done (followed None p.bytes x)) h.2)
-              (Appends-trans w0.taken w1.taken w2.taken _ _ p.wrote h.3);
-          reading = few;
-          input_count = il;
-          out_count = omega arith;
-        };
-      }
-      finished (Err stop.Memory) il ol later h = record {
-        end = run.NoMemory;
-        is = refl;
-        ran = record {
-          meaning = prefix_told work r0 w0 w2 (part_end 0 0 (omega arith) (Appends-kept w1.taken w1.taken w2.taken [] (Appends-nil w1.taken) h));
-          reading = few;
-          input_count = il;
-          out_count = omega arith;
-        };
-      }
-      finished (Err stop.Output) il ol later h = record {
-        end = run.WriteFault;
-        is = refl;
-        ran = record {
-          meaning = (Rose-earlier w0.faults w1.faults w2.faults ol h.0, short_told work r0 w0 w2 (part_end h.1.count 1 (omega (arith, h.1.short)) h.1.front));
-          reading = few;
-          input_count = il;
-          out_count = omega arith;
-        };
-      }
-      finished (Err stop.Input) il ol later h = absurd h
-
-    -- ---- the limit
-
-    module _ (a : Assembly) (r0 r1 r2 : Reading) (w0 w1 : Writing) (p : Progress lister a r0 r1 w0 w1 limit) where
-      -- a byte follows it
-      pub more_behind : r0.faults ≤ r1.faults → w0.faults ≤ w1.faults → Looked r1 r2 look.More → Assembles lister limit r0 r2 w0 w1 ended.Limit
-      more_behind il ol looked =
-          let byte : ℕ = looked.0.0 in
-          let read : Consumes r0.left r2.left (p.done ++ byte ∷ []) = Consumes-trans r0.left r1.left r2.left p.done _ p.read looked.0.1 in
-          let stream = stream_behind r0.left r2.left (p.done ++ byte ∷ []) read in
-          let all : (p.done ++ byte ∷ []) ++ stream.0 ≡ p.done ++ byte ∷ stream.0 = append_assoc p.done (byte ∷ []) stream.0 in
-          let long : limit < length (p.done ++ byte ∷ stream.0) = omega (arith, length-append p.done (byte ∷ stream.0), p.size_is) in
-          let none = no_more m p.done a.number a.left.items p.bytes p.so_far in
-          let e = ap (asm_outcome m limit) all ∙ asm_cut_off m limit p.done (byte ∷ stream.0) p.size_is long (ap (λ x. x.refused) none) in record {
+      pub past_limit : Comes limit r0 r1 p p1 h.front next.Limit → Assembles lister limit r0 r1 w0 w ended.Limit
+      past_limit c =
+          let past = c.1 in
+          let done : List ℕ = h.front ++ piece_of p in
+          let stream = stream_behind r0.left r1.left (done ++ past.byte ∷ []) past.read in
+          let all : (done ++ past.byte ∷ []) ++ stream.0 ≡ done ++ past.byte ∷ stream.0 = append_assoc done (past.byte ∷ []) stream.0 in
+          let long : limit < length (done ++ past.byte ∷ stream.0) = omega (arith, length-append done (past.byte ∷ stream.0), past.size) in
+          let none = no_more m done a.number a.left.items h.bytes h.so_far in
+          let e = ap (asm_outcome m limit) all ∙ asm_cut_off m limit done (past.byte ∷ stream.0) past.size long (ap (λ x. x.refused) none) in record {
             end = run.Limit run.Input;
             is = refl;
             ran = record {
-              meaning = ((p.done ++ byte ∷ []) ++ stream.0, stream.1, (ap (λ o. o.end) e, subst (Appends w0.taken w1.taken) (sym (ap (λ o. o.out) e ∙ ap (λ x. x.bytes) none)) p.wrote));
-              reading = record { bytes = p.done ++ byte ∷ []; taken = read; few = simp length-append (omega (arith, p.size_is)) };
-              input_count = omega (arith, looked.1);
-              out_count = ol;
+              meaning = ((done ++ past.byte ∷ []) ++ stream.0, stream.1, (ap (λ o. o.end) e, subst (Appends w0.taken w.taken) (sym (ap (λ o. o.out) e ∙ ap (λ x. x.bytes) none)) h.wrote));
+              reading = record { bytes = done ++ past.byte ∷ []; taken = past.read; few = omega (arith, length-append done (past.byte ∷ []), past.size) };
+              input_count = past.later;
+              out_count = h.later;
             };
           }
 
-      -- the look failed
-      pub look_failed : r0.faults ≤ r1.faults → w0.faults ≤ w1.faults → Looked r1 r2 look.Failed → Assembles lister limit r0 r2 w0 w1 ended.ReadFault
-      look_failed il ol looked = record {
+      pub source_failed : Comes limit r0 r1 p p1 h.front next.Failed → Assembles lister limit r0 r1 w0 w ended.ReadFault
+      source_failed l = record {
         end = run.ReadFault run.Input;
         is = refl;
         ran = record {
-          meaning = input_broke a a r0 r1 r2 w0 w1 w1 limit p [] (omega arith) il looked.0 looked.1 (Keeps-refl w1.taken);
-          reading = few_bytes a a r0 r1 r2 w0 w1 w1 limit p [] looked.1 (omega arith);
-          input_count = omega (arith, looked.2);
-          out_count = ol;
+          meaning = record {
+            cause = l.cause;
+            read = (h.front ++ piece_of p) ++ l.lost;
+            was_read = l.read;
+            front = length (h.front ++ piece_of p);
+            within = omega (arith, length-append (h.front ++ piece_of p) l.lost, l.few);
+            lines =
+                let e : (assembled_from 1 m (cut (take (length (h.front ++ piece_of p)) ((h.front ++ piece_of p) ++ l.lost))).whole).bytes ≡ h.bytes =
+                    ap (λ xs. (assembled_from 1 m (cut xs).whole).bytes) (take-append_seam (h.front ++ piece_of p) l.lost) ∙ ap (λ a. a.bytes) h.so_far.words in
+                subst (Appends w0.taken w.taken) (sym e) h.wrote;
+          };
+          reading = record { bytes = (h.front ++ piece_of p) ++ l.lost; taken = l.read; few = omega (arith, l.few) };
+          input_count = l.later;
+          out_count = h.later;
         };
       }
 
-      -- nothing follows it
-      pub nothing_behind : Looked r1 r2 look.End → Progress lister a r0 r2 w0 w1 limit
-      nothing_behind looked = record {
-        done = p.done;
-        size_is = p.size_is;
-        read = subst (Consumes r0.left r2.left) (append-nil p.done) (Consumes-trans r0.left r1.left r2.left p.done [] p.read looked.0);
-        bytes = p.bytes;
-        wrote = p.wrote;
-        so_far = p.so_far;
-      }
+      -- ---- the end of the stream
 
-    -- the same where the limit is reached by another number
+      module _ (every : ReadsAll limit r0 r1 (h.front ++ piece_of p)) where
+        abbrev last : Assembled
+        last = assembled_from a.number m (a.left.items ∷ [])
 
-    pub more_past : (a : Assembly) (r0 r1 r2 : Reading) (w0 w1 : Writing) (size : ℕ) → size ≡ limit → Progress lister a r0 r1 w0 w1 size → r0.faults ≤ r1.faults → w0.faults ≤ w1.faults → Looked r1 r2 look.More → Assembles lister limit r0 r2 w0 w1 ended.Limit
-    more_past a r0 r1 r2 w0 w1 size e p il ol looked = more_behind a r0 r1 r2 w0 w1 (subst (Progress lister a r0 r1 w0 w1) e p) il ol looked
+        whole_is : asm_outcome m limit (h.front ++ piece_of p) ≡ assembly_outcome m run.Done (followed None h.bytes last)
+        whole_is = asm_whole m limit (h.front ++ piece_of p) every.few ∙ ap (assembly_outcome m run.Done) (all_lines m (h.front ++ piece_of p) a.number a.left.items h.bytes h.so_far)
 
-    pub failed_past : (a : Assembly) (r0 r1 r2 : Reading) (w0 w1 : Writing) (size : ℕ) → size ≡ limit → Progress lister a r0 r1 w0 w1 size → r0.faults ≤ r1.faults → w0.faults ≤ w1.faults → Looked r1 r2 look.Failed → Assembles lister limit r0 r2 w0 w1 ended.ReadFault
-    failed_past a r0 r1 r2 w0 w1 size e p il ol looked = look_failed a r0 r1 r2 w0 w1 (subst (Progress lister a r0 r1 w0 w1) e p) il ol looked
+        few : ReadsAtMost r0 r1 (limit + 1)
+        few = record { bytes = h.front ++ piece_of p; taken = every.read; few = omega (arith, every.few) }
+
+        told_end : (end : run.End) (out : List ℕ) → assembly_outcome m run.Done (followed None h.bytes last) ≡ record { end = end; out = out } → Appends w0.taken w1.taken out → Listed work r0 w0 w1 end
+        told_end end out e wrote =
+            let all = whole_is ∙ e in
+            whole_told work r0 r1 w0 w1 (h.front ++ piece_of p) end every.read every.end (ap (λ o. o.end) all) (subst (Appends w0.taken w1.taken) (sym (ap (λ o. o.out) all)) wrote)
+
+        part_end : (n d : ℕ) → n + d ≤ length last.bytes → Appends w.taken w1.taken (take n last.bytes) → OfPart work d r0 w0 w1
+        part_end n d few out =
+            let done : List ℕ = h.front ++ piece_of p in
+            let e : (asm_outcome m limit done).out ≡ h.bytes ++ last.bytes = ap (λ o. o.out) whole_is in
+            let l : length h.bytes + n + d ≤ length (asm_outcome m limit done).out = omega (arith, ap length e, length-append h.bytes last.bytes) in
+            let text : take (length h.bytes + n) (asm_outcome m limit done).out ≡ h.bytes ++ take n last.bytes = ap (take (length h.bytes + n)) e ∙ take-append-add h.bytes last.bytes n in
+            let same = Consumes-whole r0.left r1.left done (λ bytes. bytes ≡ done) every.read every.end refl in
+            (done, same, (length h.bytes + n, l, subst (Appends w0.taken w1.taken) (sym text) (Appends-trans w0.taken w.taken w1.taken h.bytes _ h.wrote out)))
+
+        finished : (s : Result (Unit {0}) Stop) → w.faults ≤ w1.faults → LastLine lister a w w1 s → Assembles lister limit r0 r1 w0 w1 (ended_by s)
+        finished (Ok u) later f = record {
+          end = run.Done;
+          is = refl;
+          ran = record {
+            meaning = (
+              told_end run.Done (h.bytes ++ f.0) (ap (λ x. assembly_outcome m run.Done (followed None h.bytes x)) f.1) (Appends-trans w0.taken w.taken w1.taken _ _ h.wrote f.2),
+              every.end,
+            );
+            reading = few;
+            input_count = every.later;
+            out_count = omega (arith, h.later);
+          };
+        }
+        finished (Err (stop.Line number fault)) later f = record {
+          end = refusal lister f.0;
+          is = (f.0, f.1, refl);
+          ran = record {
+            meaning =
+                told_end (refusal lister f.0) (h.bytes ++ []) (ap (λ x. assembly_outcome m run.Done (followed None h.bytes x)) f.2)
+                (Appends-trans w0.taken w.taken w1.taken _ _ h.wrote f.3);
+            reading = few;
+            input_count = every.later;
+            out_count = omega (arith, h.later);
+          };
+        }
+        finished (Err stop.Memory) later f = record {
+          end = run.NoMemory;
+          is = refl;
+          ran = record {
+            meaning = prefix_told work r0 w0 w1 (part_end 0 0 (omega arith) (Appends-kept w.taken w.taken w1.taken [] (Appends-nil w.taken) f));
+            reading = few;
+            input_count = every.later;
+            out_count = omega (arith, h.later);
+          };
+        }
+        finished (Err stop.Output) later f = record {
+          end = run.WriteFault;
+          is = refl;
+          ran = record {
+            meaning = (Rose-earlier w0.faults w.faults w1.faults h.later f.0, short_told work r0 w0 w1 (part_end f.1.count 1 (omega (arith, f.1.short)) f.1.front));
+            reading = few;
+            input_count = every.later;
+            out_count = omega (arith, h.later);
+          };
+        }
+
+      pub stream_finished : (s : Result (Unit {0}) Stop) → w.faults ≤ w1.faults → Comes limit r0 r1 p p1 h.front next.End → LastLine lister a w w1 s → Assembles lister limit r0 r1 w0 w1 (ended_by s)
+      stream_finished s later c f = finished c.1 s later f

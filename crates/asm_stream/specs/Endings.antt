@@ -25,7 +25,6 @@ EndsAs lister ended.NoMemory end = end ≡ run.NoMemory
 
 -- how an assembly ends that is stopped
 abbrev pub stopped_by : Stop → Ended
-stopped_by stop.Input = ended.ReadFault
 stopped_by stop.Output = ended.WriteFault
 stopped_by stop.Memory = ended.NoMemory
 stopped_by (stop.Line number fault) = ended.Line number fault

@@ -23,5 +23,4 @@ abbrev pub LineGives : Lister → ℕ → List ℕ → List ℕ → List ℕ →
 LineGives lister number line before after (Ok u) = (bytes : List ℕ) × (assembled_from number (machine lister) (line ∷ []) ≡ record { bytes = bytes; refused = None }) × (after ≡ before ++ bytes)
 LineGives lister number line before after (Err (stop.Line of fault)) = (bad : BadLine) × IsBad lister of fault bad × (assembled_from number (machine lister) (line ∷ []) ≡ record { bytes = []; refused = Some bad }) × (after ≡ before)
 LineGives lister number line before after (Err stop.Memory) = ⊤
-LineGives lister number line before after (Err stop.Input) = ⊥
 LineGives lister number line before after (Err stop.Output) = ⊥

@@ -1,8 +1,8 @@
 -- What becomes of one piece of the stream, and of its last line.
-use Rattle.std.specs.Prelude.{◌≡◌, ◌<◌, ◌≤◌, ◌⊎◌, ℕ, List, [], ◌∷◌, ◌++◌, length, take, Some, None, Result, Ok, Err, ⊤}
-use Rattle.std.specs.Io.KnownBytes.{Appends, Consumes, Keeps, IsAtEnd}
+use Rattle.std.specs.Prelude.{◌≡◌, ◌≤◌, ◌⊎◌, ℕ, List, [], ◌∷◌, ◌++◌, Some, None, Result, Ok, Err, ⊤}
+use Rattle.std.specs.Io.KnownBytes.{Appends, Keeps}
 use Rattle.spec_io.specs.Faults.{Rose}
-use Rattle.spec_io.specs.States.{Reading, Writing}
+use Rattle.spec_io.specs.States.{Writing}
 use Rattle.spec_decode.specs.Machine.{Machine}
 use Rattle.spec_lines.specs.Assembly.{BadLine, assembled_from}
 use Rattle.mrs_io.specs.Pieces.{AppendsPart}
@@ -17,12 +17,11 @@ use Rattle.asm_stream.specs.SoFar.{SoFar, Refuses}
 
 -- ---- words that are written
 
--- lines alone stop this: no read, no write
+-- lines alone stop this: no write
 abbrev pub IsOfLines : Result (Unit {0}) Stop → Type 0
 IsOfLines (Ok u) = ⊤
 IsOfLines (Err (stop.Line number fault)) = ⊤
 IsOfLines (Err stop.Memory) = ⊤
-IsOfLines (Err stop.Input) = ⊥
 IsOfLines (Err stop.Output) = ⊥
 
 -- memory did not run out, so what lines came to is written
@@ -30,7 +29,6 @@ abbrev pub IsWritten : Result (Unit {0}) Stop → Type 0
 IsWritten (Ok u) = ⊤
 IsWritten (Err (stop.Line number fault)) = ⊤
 IsWritten (Err stop.Memory) = ⊥
-IsWritten (Err stop.Input) = ⊥
 IsWritten (Err stop.Output) = ⊥
 
 module _ (out out_after : Writing) where
@@ -40,7 +38,6 @@ module _ (out out_after : Writing) where
   Wrote words judged (Err (stop.Line number fault)) = (judged ≡ Err (stop.Line number fault)) × Appends out.taken out_after.taken words
   Wrote words judged (Err stop.Memory) = Keeps out.taken out_after.taken
   Wrote words judged (Err stop.Output) = IsWritten judged × Rose out.faults out_after.faults × AppendsPart out.taken out_after.taken words
-  Wrote words judged (Err stop.Input) = ⊥
 
 -- ---- one piece
 
@@ -52,62 +49,33 @@ Before m a P = (done before : List ℕ) → SoFar m done a.number a.left.items b
 abbrev pub Fronts : Machine → List ℕ → List ℕ → Type 0
 Fronts m done bytes = ((number : ℕ) × (left : List ℕ) × SoFar m done number left bytes) ⊎ ((bad : BadLine) × Refuses m done bad bytes)
 
-module _ (lister : Lister) (a a1 : Assembly) (room : ℕ) (input input_after : Reading) (out out_after : Writing) where
-  -- a piece was read into the front of the buffer, and the words of its lines went out; it is short only at the end of the stream
-  pub record PieceTaken (buffer : List ℕ) (n : ℕ) : Type 0 where
-    pub fits : n ≤ room
-    pub read : Consumes input.left input_after.left (take n buffer)
-    pub end : n < room → IsAtEnd input_after.left
+module _ (lister : Lister) (a a1 : Assembly) (piece : List ℕ) (out out_after : Writing) where
+  -- the words of its lines went out
+  pub record PieceTaken : Type 0 where
     pub words : List ℕ
     pub wrote : Appends out.taken out_after.taken words
-    pub reaches : Before (machine lister) a (λ done before. SoFar (machine lister) (done ++ take n buffer) a1.number a1.left.items (before ++ words))
+    pub reaches : Before (machine lister) a (λ done before. SoFar (machine lister) (done ++ piece) a1.number a1.left.items (before ++ words))
 
-  -- some bytes were read, at most as many as there is room for, and nothing went out
-  pub record PieceLost : Type 0 where
-    pub bytes : List ℕ
-    pub fits : length bytes ≤ room
-    pub read : Consumes input.left input_after.left bytes
-    pub nothing : Keeps out.taken out_after.taken
-
-  -- a piece was read, and its words went out in part
+  -- its words went out in part
   pub record PieceCut : Type 0 where
-    pub bytes : List ℕ
-    pub fits : length bytes ≤ room
-    pub read : Consumes input.left input_after.left bytes
     pub words : List ℕ
+    pub cause : Rose out.faults out_after.faults
     pub part : AppendsPart out.taken out_after.taken words
-    pub fronts : Before (machine lister) a (λ done before. Fronts (machine lister) (done ++ bytes) (before ++ words))
+    pub fronts : Before (machine lister) a (λ done before. Fronts (machine lister) (done ++ piece) (before ++ words))
 
-  -- a piece was read, and one of its lines is refused, behind words that went out
+  -- one of its lines is refused, behind words that went out
   pub record PieceRefused (number : ℕ) (fault : LineFault) : Type 0 where
-    pub bytes : List ℕ
-    pub fits : length bytes ≤ room
-    pub read : Consumes input.left input_after.left bytes
     pub words : List ℕ
     pub wrote : Appends out.taken out_after.taken words
     pub bad : BadLine
     pub is : IsBad lister number fault bad
-    pub refuses : Before (machine lister) a (λ done before. Refuses (machine lister) (done ++ bytes) bad (before ++ words))
+    pub refuses : Before (machine lister) a (λ done before. Refuses (machine lister) (done ++ piece) bad (before ++ words))
 
-  abbrev pub PieceEnds : List ℕ → Result ℕ Stop → Type 0
-  PieceEnds buffer (Ok n) = PieceTaken buffer n
-  PieceEnds buffer (Err stop.Input) = PieceLost
-  PieceEnds buffer (Err stop.Memory) = PieceLost
-  PieceEnds buffer (Err stop.Output) = PieceCut
-  PieceEnds buffer (Err (stop.Line number fault)) = PieceRefused number fault
-
--- the causes of the two faults: the count of the source or of the sink rose; neither has fallen
-abbrev pub StopCause : Reading → Reading → Writing → Writing → Result ℕ Stop → Type 0
-StopCause input input_after out out_after (Ok n) = Unit {0}
-StopCause input input_after out out_after (Err stop.Input) = Rose input.faults input_after.faults
-StopCause input input_after out out_after (Err stop.Output) = Rose out.faults out_after.faults
-StopCause input input_after out out_after (Err stop.Memory) = Unit {0}
-StopCause input input_after out out_after (Err (stop.Line number fault)) = Unit {0}
-
-pub record PieceCause (input input_after : Reading) (out out_after : Writing) (result : Result ℕ Stop) : Type 0 where
-  pub input_later : input.faults ≤ input_after.faults
-  pub out_later : out.faults ≤ out_after.faults
-  pub cause : StopCause input input_after out out_after result
+  abbrev pub PieceEnds : Result (Unit {0}) Stop → Type 0
+  PieceEnds (Ok u) = PieceTaken
+  PieceEnds (Err stop.Memory) = Keeps out.taken out_after.taken
+  PieceEnds (Err stop.Output) = PieceCut
+  PieceEnds (Err (stop.Line number fault)) = PieceRefused number fault
 
 -- ---- the last line
 
@@ -118,4 +86,3 @@ LastLine lister a out out_after (Err (stop.Line number fault)) =
     (bad : BadLine) × IsBad lister number fault bad × (assembled_from a.number (machine lister) (a.left.items ∷ []) ≡ record { bytes = []; refused = Some bad }) × Appends out.taken out_after.taken []
 LastLine lister a out out_after (Err stop.Memory) = Keeps out.taken out_after.taken
 LastLine lister a out out_after (Err stop.Output) = Rose out.faults out_after.faults × AppendsPart out.taken out_after.taken (assembled_from a.number (machine lister) (a.left.items ∷ [])).bytes
-LastLine lister a out out_after (Err stop.Input) = ⊥

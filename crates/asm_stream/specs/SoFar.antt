@@ -33,5 +33,4 @@ abbrev pub Takes : Lister → Assembly → Assembly → List ℕ → Result (Uni
 Takes lister a a1 more (Ok u) = Reaches (machine lister) a a1 more
 Takes lister a a1 more (Err (stop.Line number fault)) = (bad : BadLine) × IsBad lister number fault bad × Meets (machine lister) a a1 more bad
 Takes lister a a1 more (Err stop.Memory) = ⊤
-Takes lister a a1 more (Err stop.Input) = ⊥
 Takes lister a a1 more (Err stop.Output) = ⊥

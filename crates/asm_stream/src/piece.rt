@@ -1,12 +1,12 @@
-//! One piece of a stream, and its end.
+//! The words of one piece of a stream, and of its last line.
 ghost use Rattle.std.specs.Prelude.{◌≡◌, ◌≤◌, ◌+◌, ◌<◌, ◌^◌, length};
 ghost use Rattle.list_words.specs.Listers.{IsOneRelease};
-ghost use Rattle.asm_stream.specs.Pieces.{IsOfLines, Wrote, PieceEnds, PieceCause, LastLine};
+ghost use Rattle.asm_stream.specs.Pieces.{IsOfLines, Wrote, PieceEnds, LastLine};
 
 use crate::assembly::{Assembly, push_word, take_bytes};
 use crate::stop::Stop;
 use list_words::Lister;
-use mrs_io::{Sink, Source, fill, write_whole};
+use mrs_io::{Sink, write_whole};
 
 /// Writes the words that lines came to, also where one of them is refused behind them.
 fn write_words<K: Sink>(out: &mut K, words: &[u8], judged: Result<(), Stop>) -> Result<(), Stop>
@@ -23,28 +23,21 @@ fn write_words<K: Sink>(out: &mut K, words: &[u8], judged: Result<(), Stop>) -> 
     judged
 }
 
-/// Reads one piece of the stream, and writes the words of the lines that it ends. Answers how many bytes it read: fewer
-/// than the buffer holds only at the end.
-pub(crate) fn assemble_piece<S: Source, K: Sink>(
+/// Writes the words of the lines that a piece of the stream ends.
+pub(crate) fn take_piece<K: Sink>(
     assembly: &mut Assembly,
     lister: &Lister<'_>,
-    input: &mut S,
+    piece: &[u8],
     out: &mut K,
-    buffer: &mut [u8],
-) -> Result<usize, Stop>
+) -> Result<(), Stop>
     requires release { IsOneRelease lister.now }
-    requires number { assembly.old.number + length buffer.old < 2 ^ 64 }
-    ensures piece { PieceEnds lister.now assembly.old assembly.new (length buffer.new) (S.reading input.old) (S.reading input.new)
-        (K.writing out.old) (K.writing out.new) buffer.new result }
-    ensures cause { PieceCause (S.reading input.old) (S.reading input.new) (K.writing out.old) (K.writing out.new) result }
+    requires number { assembly.old.number + length piece.now < 2 ^ 64 }
+    ensures piece { PieceEnds lister.now assembly.old assembly.new piece.now (K.writing out.old) (K.writing out.new) result }
+    ensures later { (K.writing out.old).faults ≤ (K.writing out.new).faults }
 {
-    let Ok(n) = fill(input, buffer) else {
-        return Err(Stop::Input);
-    };
     assembly.words.clear();
-    let judged = take_bytes(assembly, lister, &buffer[..n]);
-    write_words(out, &assembly.words, judged)?;
-    Ok(n)
+    let judged = take_bytes(assembly, lister, piece);
+    write_words(out, &assembly.words, judged)
 }
 
 /// Writes the word of a last line that lacks its LF, if any byte of it is there.

@@ -7,9 +7,8 @@ use list_words::LineFault;
 use std::alloc::AllocError;
 
 /// What stops the assembly of a stream before its end.
-#[derive(Clone, Copy, Debug, PartialEq, Eq)]
+#[derive(Clone, Copy)]
 pub(crate) enum Stop {
-    Input,
     Output,
     Memory,
     Line { number: u64, fault: LineFault },
@@ -32,7 +31,6 @@ impl Stop {
         ensures { result ≡ stopped_by self }
     {
         match self {
-            Stop::Input => Ended::ReadFault,
             Stop::Output => Ended::WriteFault,
             Stop::Memory => Ended::NoMemory,
             Stop::Line { number, fault } => Ended::Line { number, fault },

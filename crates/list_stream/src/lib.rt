@@ -6,5 +6,4 @@ mod piece;
 mod stream;
 
 pub use ended::Ended;
-pub use piece::{Look, look_past};
 pub use stream::list_stream;

@@ -1,18 +1,17 @@
-//! One piece of a stream, and its end.
+//! The lines of one piece of a stream, and of its end.
 ghost use Rattle.std.specs.Prelude.{◌≡◌, ◌+◌, ◌<◌, ◌^◌, length};
 ghost use Rattle.spec_lines.specs.Words.{rest_in};
 ghost use Rattle.list_words.specs.Listers.{IsOneRelease, machine, form};
-ghost use Rattle.list_stream.specs.Pieces.{PieceEnds, PieceCause, Finished, Looked, stopped_by};
+ghost use Rattle.list_stream.specs.Pieces.{PieceEnds, Finished, stopped_by};
 
 use crate::ended::Ended;
 use list_words::{Lister, push_bytes_line, push_lines};
-use mrs_io::{Sink, Source, fill, write_whole};
+use mrs_io::{Sink, write_whole};
 use std::alloc::AllocError;
 
-/// What stops the listing of a stream before its end.
-#[derive(Clone, Copy, Debug, PartialEq, Eq)]
+/// What stops the listing of words that were read.
+#[derive(Clone, Copy)]
 pub(crate) enum Stop {
-    Input,
     Output,
     Memory,
 }
@@ -34,49 +33,30 @@ impl Stop {
         ensures { result ≡ stopped_by self }
     {
         match self {
-            Stop::Input => Ended::ReadFault,
             Stop::Output => Ended::WriteFault,
             Stop::Memory => Ended::NoMemory,
         }
     }
 }
 
-/// What a look for a byte past the limit found.
-#[derive(Clone, Copy, Debug, PartialEq, Eq)]
-pub enum Look {
-    /// No byte follows: the stream ends at the limit.
-    End,
-    /// A byte follows.
-    More,
-    /// The source failed.
-    Failed,
-}
-
-/// Reads one piece of the stream, which stands at an offset, and writes the lines of its whole words. Answers how
-/// many bytes it read: fewer than the buffer holds only at the end. `lines` is room that is used anew.
-pub(crate) fn list_piece<S: Source, K: Sink>(
+/// Writes the lines of the whole words of a piece, which stands at an offset of the stream. `lines` is room that is used anew.
+pub(crate) fn list_piece<K: Sink>(
     lister: &Lister<'_>,
     offset: u64,
-    input: &mut S,
+    piece: &[u8],
     out: &mut K,
-    buffer: &mut [u8],
     lines: &mut Vec<u8>,
-) -> Result<usize, Stop>
+) -> Result<(), Stop>
     requires release { IsOneRelease lister.now }
-    requires offset { offset + length buffer.old < 2 ^ 64 }
-    ensures piece { PieceEnds (form lister.now) (machine lister.now) offset (length buffer.new)
-        (S.reading input.old) (S.reading input.new) (K.writing out.old) (K.writing out.new) buffer.new result }
-    ensures cause { PieceCause (S.reading input.old) (S.reading input.new) (K.writing out.old) (K.writing out.new) result }
+    requires offset { offset + length piece.now < 2 ^ 64 }
+    ensures { PieceEnds (form lister.now) (machine lister.now) offset piece.now (K.writing out.old) (K.writing out.new) result }
 {
-    let Ok(n) = fill(input, buffer) else {
-        return Err(Stop::Input);
-    };
     lines.clear();
-    push_lines(lines, lister, offset, &buffer[..n])?;
+    push_lines(lines, lister, offset, piece)?;
     if write_whole(out, lines).is_err() {
         return Err(Stop::Output);
     }
-    Ok(n)
+    Ok(())
 }
 
 /// The bytes behind the last whole word of a stream that ends with this piece.
@@ -114,17 +94,5 @@ pub(crate) fn finish<K: Sink>(
     }
     Ended::Ragged {
         rest: rest.len() as u8,
-    }
-}
-
-/// Looks for a byte past the limit of the stream.
-pub fn look_past<S: Source>(input: &mut S) -> Look
-    ensures { Looked (S.reading input.old) (S.reading input.new) result }
-{
-    let mut next = [0u8; 1];
-    match fill(input, &mut next) {
-        Ok(0) => Look::End,
-        Ok(_) => Look::More,
-        Err(_) => Look::Failed,
     }
 }

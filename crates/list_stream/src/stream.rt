@@ -1,88 +1,74 @@
 //! A stream, piece by piece.
-ghost use Rattle.std.specs.Prelude.{◌≡◌, ◌≤◌, ◌+◌, ◌*◌, ◌<◌, ◌^◌, ℕ, length};
+ghost use Rattle.std.specs.Prelude.{◌≤◌, ◌^◌, ℕ};
 ghost use Rattle.spec_io.specs.States.{Reading, Writing};
 ghost use Rattle.spec_run.specs.Listing.{list_work};
 ghost use Rattle.spec_run.specs.Work.{Reads};
 ghost use Rattle.spec_run.specs.Ran.{Ran};
+ghost use Rattle.stream_pieces.specs.Reached.{Begins};
 ghost use Rattle.list_words.specs.Listers.{IsOneRelease, machine, form};
 ghost use Rattle.list_stream.specs.Endings.{end_of};
-ghost use Rattle.list_stream.specs.Progress.{Progress};
+ghost use Rattle.list_stream.specs.Progress.{Listed, HasOffset, GoesOn};
 
 use crate::ended::Ended;
-use crate::piece::{Look, finish, list_piece, look_past};
+use crate::piece::{finish, list_piece};
 use list_words::Lister;
 use mrs_io::{Sink, Source};
 use std::alloc::Global;
+use stream_pieces::{Next, Pieces};
 
-/// How many bytes of the stream are read at once: 16,384 words.
-const PIECE: usize = 65_536;
-
-/// Lists the last piece of the stream within the limit, which stands at an offset, through a buffer that ends at the
-/// limit, and looks for a byte past it. `lines` is room that is used anew.
-fn list_last<S: Source, K: Sink>(
+/// Lists the next piece of the stream, which stands behind the last one, or ends the listing. `offset` is that of the last piece,
+/// and `lines` is room that is used anew.
+fn list_next<S: Source, K: Sink>(
     lister: &Lister<'_>,
-    offset: u64,
+    pieces: &mut Pieces,
+    offset: &mut u64,
     input: &mut S,
     out: &mut K,
-    buffer: &mut [u8],
     lines: &mut Vec<u8>,
-) -> Ended
+) -> Option<Ended>
     requires release { IsOneRelease lister.now }
-    requires offset { offset + length buffer.old < 2 ^ 64 }
-    ensures { (r : Reading) (w : Writing) (k : ℕ) → Progress (form lister.now) (machine lister.now) r (S.reading input.old) w (K.writing out.old) k
-        → offset ≡ k * 65536 → r.faults ≤ (S.reading input.old).faults → w.faults ≤ (K.writing out.old).faults
-        → Ran r (S.reading input.new) w (K.writing out.new) (Reads (list_work (form lister.now) (machine lister.now) (offset + length buffer.old))) (end_of result) }
+    requires offset { HasOffset pieces.old offset.old }
+    ensures { (limit : ℕ) (r : Reading) (w : Writing) → Listed (form lister.now) (machine lister.now) limit r (S.reading input.old) w (K.writing out.old) pieces.old offset.old
+        → GoesOn (form lister.now) (machine lister.now) limit r (S.reading input.new) w (K.writing out.new) pieces.old pieces.new offset.new result }
 {
-    let n = match list_piece(lister, offset, input, out, buffer, lines) {
-        Ok(n) => n,
-        Err(stop) => return stop.ended(),
-    };
-    if n < buffer.len() {
-        return finish(lister, offset, &buffer[..n], out, lines);
-    }
-    match look_past(input) {
-        Look::End => finish(lister, offset, &buffer[..n], out, lines),
-        Look::More => Ended::Limit,
-        Look::Failed => Ended::ReadFault,
+    let behind = *offset + pieces.bytes().len() as u64;
+    match pieces.next(input) {
+        Next::Piece => {
+            *offset = behind;
+            match list_piece(lister, behind, pieces.bytes(), out, lines) {
+                Ok(()) => None,
+                Err(stop) => Some(stop.ended()),
+            }
+        }
+        Next::End => Some(finish(lister, *offset, pieces.bytes(), out, lines)),
+        Next::Limit => Some(Ended::Limit),
+        Next::Failed => Some(Ended::ReadFault),
     }
 }
 
-/// Lists the words of at most `max` bytes of the stream through a buffer of one piece.
+/// Lists the words of a stream of which no piece was read yet.
 fn list_pieces<S: Source, K: Sink>(
     alloc: Global,
     lister: &Lister<'_>,
     max: u64,
+    pieces: &mut Pieces,
     input: &mut S,
     out: &mut K,
-    buffer: &mut [u8],
 ) -> Ended
     requires release { IsOneRelease lister.now }
     requires max { max ≤ 2 ^ 40 }
-    requires room { length buffer.old ≡ 65536 }
+    requires begins { Begins max pieces.old }
     ensures { Ran (S.reading input.old) (S.reading input.new) (K.writing out.old) (K.writing out.new)
         (Reads (list_work (form lister.now) (machine lister.now) max)) (end_of result) }
 {
+    let _limit = max;
     let mut lines = Vec::new(alloc);
-    let whole = max / PIECE as u64;
-    for k in 0..whole {
-        let offset = k * PIECE as u64;
-        let n = match list_piece(lister, offset, input, out, buffer, &mut lines) {
-            Ok(n) => n,
-            Err(stop) => return stop.ended(),
-        };
-        if n < PIECE {
-            return finish(lister, offset, &buffer[..n], out, &mut lines);
+    let mut offset = 0;
+    'pieces: loop {
+        if let Some(ended) = list_next(lister, pieces, &mut offset, input, out, &mut lines) {
+            return ended;
         }
     }
-    let last = (max % PIECE as u64) as usize;
-    list_last(
-        lister,
-        whole * PIECE as u64,
-        input,
-        out,
-        &mut buffer[..last],
-        &mut lines,
-    )
 }
 
 /// Lists the words of a stream, of which at most `max` bytes are taken, in the lister's form: reads it to its end or to the
@@ -100,8 +86,8 @@ pub fn list_stream<S: Source, K: Sink>(
     ensures { Ran (S.reading input.old) (S.reading input.new) (K.writing out.old) (K.writing out.new)
         (Reads (list_work (form lister.now) (machine lister.now) max)) (end_of result) }
 {
-    match vec![in alloc; 0u8; PIECE] {
-        Ok(mut buffer) => list_pieces(alloc, lister, max, input, out, buffer.as_mut_slice()),
+    match Pieces::new(alloc, max) {
+        Ok(mut pieces) => list_pieces(alloc, lister, max, &mut pieces, input, out),
         Err(_) => Ended::NoMemory,
     }
 }

@@ -1,0 +1,2 @@
+-- Streams that are read piece by piece.
+pub mod Reached
