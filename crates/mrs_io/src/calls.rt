@@ -5,7 +5,7 @@ ghost use Rattle.mrs_io.specs.Calls.{first_call, is_listed, after_call};
 
 use std::marker::Model;
 
-#[derive(Debug, Drop)]
+#[derive(Drop)]
 pub struct Calls {
     next: u64,
     fails: Vec<u32>,

@@ -5,7 +5,7 @@ ghost use Rattle.spec_io.specs.Faults.{next_count};
 use std::marker::Model;
 
 /// How often an object has failed. The count stops at the largest number of 64 bits.
-#[derive(Debug, Drop)]
+#[derive(Drop)]
 pub struct FaultCount {
     pub count: u64,
 }

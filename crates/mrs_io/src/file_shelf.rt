@@ -61,37 +61,3 @@ impl Shelf for FileShelf {
         }
     }
 }
-
-#[cfg(test)]
-mod tests {
-    use super::*;
-    use std::test::Fail;
-
-    #[test]
-    fn files_are_documents(rt: HostRuntime) -> Result<(), Fail> {
-        let alloc = rt.alloc();
-        let blanks = vec![in alloc; b' '; 100_000]?;
-        let long = blanks.as_slice();
-        fs::write(&rt, "short.json", "[1]")?;
-        fs::write(&rt, "long.json", long)?;
-        let mut shelf = FileShelf::new(&rt);
-        // the name, the limit, and the answer
-        let table: [(&str, u64, Result<&[u8], FetchFault>); 7] = [
-            ("short.json", 3, Ok(b"[1]")),
-            ("short.json", u64::MAX, Ok(b"[1]")),
-            ("short.json", 2, Err(FetchFault::TooLong)),
-            ("long.json", 100_000, Ok(long)),
-            ("long.json", 99_999, Err(FetchFault::TooLong)),
-            ("missing.json", 3, Err(FetchFault::Failed)),
-            (".", 3, Err(FetchFault::Failed)),
-        ];
-        for (name, limit, answer) in table {
-            match shelf.fetch(alloc, name, limit) {
-                Ok(bytes) => assert_eq!(rt; Ok(bytes.as_slice()), answer, "{name} within {limit}"),
-                Err(fault) => assert_eq!(rt; Err(fault), answer, "{name} within {limit}"),
-            }
-        }
-        assert_eq!(rt; shelf.faults.count, 2);
-        Ok(())
-    }
-}

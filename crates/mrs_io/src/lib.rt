@@ -14,8 +14,6 @@ mod shelf;
 mod sink;
 mod source;
 mod streams;
-#[cfg(test)]
-mod tests;
 mod whole;
 
 pub use fault::{Failed, FetchFault, NoMemory};

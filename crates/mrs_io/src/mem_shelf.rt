@@ -11,7 +11,7 @@ use std::alloc::Global;
 use std::marker::Model;
 
 /// Documents in memory as a shelf.
-#[derive(Debug, Drop)]
+#[derive(Drop)]
 pub struct MemShelf {
     docs: Vec<(String, Vec<u8>)>,
     calls: Calls,
