@@ -1,148 +1,165 @@
-//! The documents and frames that a table has declared so far.
-use crate::piece::Piece;
+//! The documents that the tables have declared so far.
+use crate::bytes::{add, append_text};
+use crate::piece::push_piece;
 use crate::stop::Stop;
 use std::alloc::Global;
 use std::rt::Files;
 
-/// A document: what its frame has before it, its own pieces, and what the frame has behind it.
+/// A document, or a frame about others: its lines, those of its own frame about them. Where it has a hole, `behind` has its own
+/// lines behind that.
 #[derive(Drop)]
-pub struct Document {
+struct Document {
     name: String,
-    before: Vec<u8>,
-    pieces: Vec<Piece>,
-    after: Vec<u8>,
-}
-
-/// A text with a hole, which documents and other frames fill.
-#[derive(Drop)]
-pub struct Frame {
-    name: String,
-    before: Vec<u8>,
+    lines: String,
     has_hole: bool,
-    after: Vec<u8>,
-    outer_after: Vec<u8>,
+    behind: String,
+    /// What its frame has behind it.
+    after: String,
 }
 
 /// What the tables have declared. The last one of a name counts.
 #[derive(Drop)]
 pub struct Book {
     documents: Vec<Document>,
-    frames: Vec<Frame>,
 }
+
+/// The name and the bytes of each document that a shelf holds.
+pub type Documents = Vec<(String, Vec<u8>)>;
 
 impl Document {
-    /// Reads a line of the document.
-    pub fn take(&mut self, alloc: Global, line: &str) -> Result<(), Stop> {
-        self.pieces.push(Piece::read(alloc, line)?)?;
-        Ok(())
-    }
-
-    /// The bytes of the document.
-    fn to_bytes<R: Files + AllocGlobal>(&self, rt: &R) -> Result<Vec<u8>, Stop> {
-        let mut bytes = self.before.as_slice().to_vec(rt.alloc())?;
-        for piece in &self.pieces {
-            piece.push(rt, &mut bytes)?;
+    fn nothing(alloc: Global) -> Document {
+        Document {
+            name: String::new(alloc),
+            lines: String::new(alloc),
+            has_hole: false,
+            behind: String::new(alloc),
+            after: String::new(alloc),
         }
-        bytes.extend_from_slice(&self.after)?;
-        Ok(bytes)
     }
-}
 
-impl Frame {
-    /// Reads a line of the frame.
-    pub fn take<R: Files + AllocGlobal>(&mut self, rt: &R, line: &str) -> Result<(), Stop> {
+    fn stand_in(&mut self, frame: &Document) -> Result<(), Stop> {
+        append_text(&mut self.lines, frame.lines.as_str())?;
+        append_text(&mut self.after, frame.behind.as_str())?;
+        append_text(&mut self.after, frame.after.as_str())
+    }
+
+    fn take(&mut self, line: &str) -> Result<(), Stop> {
         if line == "hole" {
-            if self.has_hole {
-                return Err(Stop::Line("a frame has one hole"));
-            }
             self.has_hole = true;
             return Ok(());
         }
-        let piece = Piece::read(rt.alloc(), line)?;
-        if self.has_hole {
-            piece.push(rt, &mut self.after)
+        let lines = if self.has_hole {
+            &mut self.behind
         } else {
-            piece.push(rt, &mut self.before)
-        }
+            &mut self.lines
+        };
+        append_text(lines, line)?;
+        append_text(lines, "\n")
     }
 
-    /// What stands behind the hole, in all frames about it.
-    fn behind(&self, alloc: Global) -> Result<Vec<u8>, Stop> {
-        let mut bytes = self.after.as_slice().to_vec(alloc)?;
-        bytes.extend_from_slice(&self.outer_after)?;
-        Ok(bytes)
+    /// Appends the bytes of the document.
+    fn push_bytes<R: Files + AllocGlobal>(&self, rt: &R, out: &mut Vec<u8>) -> Result<(), Stop> {
+        push_lines(rt, out, self.lines.as_str())?;
+        push_lines(rt, out, self.behind.as_str())?;
+        push_lines(rt, out, self.after.as_str())
     }
 }
 
+/// Appends the bytes that lines of a document give.
+fn push_lines<R: Files + AllocGlobal>(rt: &R, out: &mut Vec<u8>, lines: &str) -> Result<(), Stop> {
+    for line in lines.lines() {
+        push_piece(rt, out, line)?;
+    }
+    Ok(())
+}
+
 impl Book {
-    pub fn new(alloc: Global) -> Book {
+    pub(crate) fn new(alloc: Global) -> Book {
         Book {
             documents: Vec::new(alloc),
-            frames: Vec::new(alloc),
         }
     }
 
-    /// What stands about the hole of the frame of that name. No name is a frame of nothing.
-    fn around(&self, alloc: Global, frame: &str) -> Result<(Vec<u8>, Vec<u8>), Stop> {
-        if frame.is_empty() {
-            return Ok((Vec::new(alloc), Vec::new(alloc)));
+    /// Begins a document: the text is its name and, behind ` in `, that of a frame.
+    pub(crate) fn begin(&mut self, alloc: Global, text: &str) -> Result<(), Stop> {
+        let mut document = Document::nothing(alloc);
+        let begun = self.fill(&mut document, text);
+        match add(&mut self.documents, document) {
+            Ok(()) => begun,
+            Err(stop) => Err(stop),
         }
-        for declared in self.frames.iter().rev() {
-            if declared.name.as_str() == frame {
-                let before = declared.before.as_slice().to_vec(alloc)?;
-                return Ok((before, declared.behind(alloc)?));
+    }
+
+    fn fill(&self, document: &mut Document, text: &str) -> Result<(), Stop> {
+        match text.split_once(" in ") {
+            Some((name, frame)) => {
+                append_text(&mut document.name, name)?;
+                self.put_in(document, frame)
             }
+            None => append_text(&mut document.name, text),
         }
-        Err(Stop::Line("no frame of that name stands above"))
     }
 
-    /// A document of that name in a frame, with no piece yet.
-    pub fn new_document(&self, alloc: Global, name: &str, frame: &str) -> Result<Document, Stop> {
-        let (before, after) = self.around(alloc, frame)?;
-        Ok(Document {
-            name: String::from_str(alloc, name)?,
-            before,
-            pieces: Vec::new(alloc),
-            after,
-        })
-    }
-
-    /// A frame of that name in another, with no piece yet.
-    pub fn new_frame(&self, alloc: Global, name: &str, outer: &str) -> Result<Frame, Stop> {
-        let (before, outer_after) = self.around(alloc, outer)?;
-        Ok(Frame {
-            name: String::from_str(alloc, name)?,
-            before,
-            has_hole: false,
-            after: Vec::new(alloc),
-            outer_after,
-        })
-    }
-
-    pub fn put_document(&mut self, document: Document) -> Result<(), Stop> {
-        self.documents.push(document)?;
-        Ok(())
-    }
-
-    pub fn put_frame(&mut self, frame: Frame) -> Result<(), Stop> {
-        if !frame.has_hole {
-            return Err(Stop::Line("the frame above has no hole"));
+    fn put_in(&self, document: &mut Document, frame: &str) -> Result<(), Stop> {
+        match self.document(frame) {
+            Some(frame) => document.stand_in(frame),
+            None => Err(Stop::Line("no frame of that name stands above")),
         }
-        self.frames.push(frame)?;
-        Ok(())
     }
 
-    /// The bytes of the document of that name, if one is declared.
-    pub fn bytes_of<R: Files + AllocGlobal>(
-        &self,
-        rt: &R,
-        name: &str,
-    ) -> Result<Option<Vec<u8>>, Stop> {
+    /// Reads a line of the last document.
+    pub(crate) fn take(&mut self, line: &str) -> Result<(), Stop> {
+        match self.documents.last_mut() {
+            Some(document) => document.take(line),
+            None => Err(Stop::Line("a table has blocks that begin with document, frame or row")),
+        }
+    }
+
+    /// The document of that name, if one is declared.
+    fn document(&self, name: &str) -> Option<&Document> {
         for document in self.documents.iter().rev() {
             if document.name.as_str() == name {
-                return Ok(Some(document.to_bytes(rt)?));
+                return Some(document);
             }
         }
-        Ok(None)
+        None
+    }
+
+    /// Puts the document of that name onto a shelf, if one is declared.
+    pub(crate) fn push_document<R: Files + AllocGlobal>(
+        &self,
+        rt: &R,
+        documents: &mut Documents,
+        name: &str,
+    ) -> Result<(), Stop> {
+        match self.document(name) {
+            Some(document) => push_rendered(rt, documents, document),
+            None => Ok(()),
+        }
+    }
+}
+
+fn push_rendered<R: Files + AllocGlobal>(
+    rt: &R,
+    documents: &mut Documents,
+    document: &Document,
+) -> Result<(), Stop> {
+    let mut bytes = Vec::new(rt.alloc());
+    match document.push_bytes(rt, &mut bytes) {
+        Ok(()) => put_on_shelf(rt.alloc(), documents, document.name.as_str(), bytes),
+        Err(stop) => Err(stop),
+    }
+}
+
+/// Puts a document of that name and these bytes onto a shelf.
+pub fn put_on_shelf(
+    alloc: Global,
+    documents: &mut Documents,
+    name: &str,
+    bytes: Vec<u8>,
+) -> Result<(), Stop> {
+    match String::from_str(alloc, name) {
+        Ok(name) => add(documents, (name, bytes)),
+        Err(_) => Err(Stop::Broken),
     }
 }

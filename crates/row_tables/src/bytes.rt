@@ -1,6 +1,5 @@
-//! Numbers and bytes as lines of a table write them.
+//! Numbers and bytes as lines of a table write them. What a line gives is put behind what is there.
 use crate::stop::Stop;
-use std::alloc::Global;
 
 /// The first word of a line, and the text behind the space that follows it.
 pub(crate) fn split_key(line: &str) -> (&str, &str) {
@@ -37,70 +36,106 @@ pub(crate) fn small_number(text: &str) -> Result<u32, Stop> {
 /// A number of times, and the text behind it.
 pub(crate) fn counted(text: &str) -> Result<(u32, &str), Stop> {
     let (count, rest) = split_key(text);
-    Ok((small_number(count)?, rest))
-}
-
-/// Numbers with spaces between them.
-pub(crate) fn numbers(alloc: Global, text: &str) -> Result<Vec<u32>, Stop> {
-    let mut all = Vec::new(alloc);
-    for word in text.split_whitespace() {
-        all.push(small_number(word)?)?;
+    match small_number(count) {
+        Ok(count) => Ok((count, rest)),
+        Err(stop) => Err(stop),
     }
-    Ok(all)
 }
 
-/// Appends the bytes that a word of hexadecimal digits holds, two digits each.
-fn push_digits(out: &mut Vec<u8>, word: &str) -> Result<(), Stop> {
-    let mut high = None;
-    for letter in word.chars() {
-        let Some(digit) = letter.to_digit(16) else {
-            return Err(Stop::Line("a hexadecimal digit was expected"));
-        };
-        let digit = digit.to_le_bytes()[0];
-        match high {
-            None => high = Some(digit),
-            Some(upper) => {
-                out.push(joined(upper, digit))?;
-                high = None;
-            }
+/// Puts a value behind the others.
+pub fn add<T: Drop>(list: &mut Vec<T>, value: T) -> Result<(), Stop> {
+    match list.push(value) {
+        Ok(()) => Ok(()),
+        Err(_) => Err(Stop::Broken),
+    }
+}
+
+pub(crate) fn append(out: &mut Vec<u8>, bytes: &[u8]) -> Result<(), Stop> {
+    match out.extend_from_slice(bytes) {
+        Ok(()) => Ok(()),
+        Err(_) => Err(Stop::Broken),
+    }
+}
+
+pub(crate) fn append_text(out: &mut String, text: &str) -> Result<(), Stop> {
+    match out.push_str(text) {
+        Ok(()) => Ok(()),
+        Err(_) => Err(Stop::Broken),
+    }
+}
+
+/// Appends a line of text.
+pub(crate) fn push_line(out: &mut Vec<u8>, text: &str) -> Result<(), Stop> {
+    append(out, text.as_bytes())?;
+    append(out, b"\n")
+}
+
+/// Appends numbers with spaces between them.
+pub(crate) fn push_numbers(all: &mut Vec<u32>, text: &str) -> Result<(), Stop> {
+    for word in text.split_whitespace() {
+        match small_number(word) {
+            Ok(number) => add(all, number)?,
+            Err(stop) => return Err(stop),
         }
     }
-    match high {
-        None => Ok(()),
-        Some(_) => Err(Stop::Line("a byte has two hexadecimal digits")),
-    }
+    Ok(())
 }
 
-/// A byte of two hexadecimal digits.
-fn joined(upper: u8, lower: u8) -> u8 {
-    upper << 4 | lower
-}
-
-/// Bytes of two hexadecimal digits each, with or without spaces between them.
-pub(crate) fn hex_bytes(alloc: Global, text: &str) -> Result<Vec<u8>, Stop> {
-    let mut out = Vec::new(alloc);
+/// Appends bytes of two hexadecimal digits each, with or without spaces between them.
+pub(crate) fn push_hex(out: &mut Vec<u8>, text: &str) -> Result<(), Stop> {
     for word in text.split_whitespace() {
-        push_digits(&mut out, word)?;
+        push_digits(out, word.as_bytes())?;
     }
-    Ok(out)
+    Ok(())
 }
 
-/// The little-endian bytes of words of 32 bits, each written as its hexadecimal number.
-pub(crate) fn word_bytes(alloc: Global, text: &str) -> Result<Vec<u8>, Stop> {
-    let mut out = Vec::new(alloc);
+/// Appends the bytes that a word of hexadecimal digits holds.
+fn push_digits(out: &mut Vec<u8>, word: &[u8]) -> Result<(), Stop> {
+    for pair in word.chunks(2) {
+        push_pair(out, pair)?;
+    }
+    Ok(())
+}
+
+fn push_pair(out: &mut Vec<u8>, pair: &[u8]) -> Result<(), Stop> {
+    match pair {
+        [upper, lower] => push_byte(out, digit(*upper), digit(*lower)),
+        _ => Err(Stop::Line("a byte has two hexadecimal digits")),
+    }
+}
+
+fn push_byte(out: &mut Vec<u8>, upper: Option<u8>, lower: Option<u8>) -> Result<(), Stop> {
+    match (upper, lower) {
+        (Some(upper), Some(lower)) => add(out, upper << 4 | lower),
+        _ => Err(Stop::Line("a hexadecimal digit was expected")),
+    }
+}
+
+/// The number of a hexadecimal digit.
+fn digit(letter: u8) -> Option<u8> {
+    match letter {
+        b'0'..=b'9' => Some(letter - b'0'),
+        b'a'..=b'f' => Some(letter - b'a' + 10),
+        b'A'..=b'F' => Some(letter - b'A' + 10),
+        _ => None,
+    }
+}
+
+/// Appends the little-endian bytes of words of 32 bits, each written as its hexadecimal number.
+pub(crate) fn push_code(out: &mut Vec<u8>, text: &str) -> Result<(), Stop> {
     for word in text.split_whitespace() {
         match u32::from_str_radix(word, 16) {
-            Ok(word) => out.extend_from_slice(&word.to_le_bytes())?,
+            Ok(word) => append(out, &word.to_le_bytes())?,
             Err(_) => return Err(Stop::Line("a hexadecimal word of 32 bits was expected")),
         }
     }
-    Ok(out)
+    Ok(())
 }
 
 /// Appends the bytes so many times.
 pub(crate) fn push_times(out: &mut Vec<u8>, count: u32, bytes: &[u8]) -> Result<(), Stop> {
     for _ in 0..count {
-        out.extend_from_slice(bytes)?;
+        append(out, bytes)?;
     }
     Ok(())
 }

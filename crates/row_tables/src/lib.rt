@@ -4,22 +4,29 @@
 //! `rows` plays.
 #![tactic(auto)]
 
-mod block;
 mod book;
 mod bytes;
+mod came;
 mod object;
 mod piece;
+mod refutation;
 mod report;
 mod row;
 mod stop;
+mod sweep;
+mod tables;
 mod target;
 mod wanted;
 
-pub use block::Block;
-pub use book::{Book, Document, Frame};
+pub use book::{Book, Documents, put_on_shelf};
+pub use bytes::add;
+pub use came::{Came, Counts, push_differences};
 pub use object::Object;
-pub use report::{push_number, push_text};
+pub use refutation::push_refutation;
+pub use report::push_text;
 pub use row::Row;
 pub use stop::Stop;
+pub use sweep::{Failing, push_broken};
+pub use tables::Tables;
 pub use target::Target;
 pub use wanted::{Refutes, Wanted};

@@ -1,5 +1,5 @@
 //! How an object of the outside behaves in a row, and what is wanted of its calls.
-use crate::bytes::{number, numbers};
+use crate::bytes::{number, push_numbers};
 use crate::stop::Stop;
 use std::alloc::Global;
 
@@ -33,19 +33,26 @@ impl Object {
     }
 
     /// Reads what a line says of the object.
-    pub fn take(&mut self, alloc: Global, key: &str, value: &str) -> Result<(), Stop> {
+    pub fn take(&mut self, key: &str, value: &str) -> Result<(), Stop> {
         match key {
-            "fails" => self.fails = numbers(alloc, value)?,
-            "most" => self.most = number(value)? as usize,
-            "room" => self.room = number(value)? as usize,
-            "calls" => self.calls = Some(number(value)?),
-            "moves" => self.moves = Some(number(value)?),
-            _ => {
-                return Err(Stop::Line(
-                    "an object fails, has most and room, and calls and moves are wanted of it",
-                ));
-            }
+            "fails" => push_numbers(&mut self.fails, value),
+            "most" => set_size(&mut self.most, value),
+            "room" => set_size(&mut self.room, value),
+            "calls" => set_count(&mut self.calls, value),
+            "moves" => set_count(&mut self.moves, value),
+            _ => Err(Stop::Line(
+                "an object fails, has most and room, and calls and moves are wanted of it",
+            )),
         }
-        Ok(())
     }
+}
+
+fn set_size(size: &mut usize, text: &str) -> Result<(), Stop> {
+    *size = number(text)? as usize;
+    Ok(())
+}
+
+fn set_count(count: &mut Option<u64>, text: &str) -> Result<(), Stop> {
+    *count = Some(number(text)?);
+    Ok(())
 }

@@ -21,13 +21,8 @@ fn alike(one: &[u8], other: &[u8]) -> usize {
 
 /// What is shown of a text from a byte on.
 fn shown(text: &[u8], from: usize) -> &[u8] {
-    let Some(rest) = text.get(from..) else {
-        return &[];
-    };
-    match rest.get(..SHOWN) {
-        Some(front) => front,
-        None => rest,
-    }
+    let rest = text.get(from..).unwrap_or(&[]);
+    rest.get(..SHOWN).unwrap_or(rest)
 }
 
 /// Appends lines on two texts that are not equal.
@@ -41,17 +36,21 @@ pub fn push_text(report: &mut String, name: &str, wanted: &[u8], came: &[u8]) ->
     let came = shown(came, from).escape_ascii();
     writeln!(
         report,
-        "  {name} differs at byte {same}, shown from byte {from}"
+        "  {name} differs at byte {same}, shown from byte {from}\n    wanted {wanted}\n    came   {came}"
     )?;
-    writeln!(report, "    wanted {wanted}")?;
-    writeln!(report, "    came   {came}")?;
     Ok(())
 }
 
 /// Appends a line on two numbers that are not equal.
-pub fn push_number(report: &mut String, name: &str, wanted: u64, came: u64) -> Result<(), Stop> {
+pub(crate) fn push_number(
+    report: &mut String,
+    of: &str,
+    what: &str,
+    wanted: u64,
+    came: u64,
+) -> Result<(), Stop> {
     if wanted != came {
-        writeln!(report, "  {name}: wanted {wanted}, came {came}")?;
+        writeln!(report, "  {what} of {of}: wanted {wanted}, came {came}")?;
     }
     Ok(())
 }

@@ -1,6 +1,8 @@
 //! A row: the words of a command line, its stream, how the outside behaves, and how the run has to end.
-use crate::book::Book;
-use crate::bytes::{counted, hex_bytes, push_times, split_key, unquoted, word_bytes};
+use crate::book::{Book, Documents};
+use crate::bytes::{
+    add, append, counted, push_code, push_hex, push_line, push_times, split_key, unquoted,
+};
 use crate::object::Object;
 use crate::stop::Stop;
 use crate::target::Target;
@@ -24,9 +26,9 @@ pub struct Row {
 
 impl Row {
     /// A row without words, over sound objects.
-    pub fn new(alloc: Global, title: &str) -> Result<Row, Stop> {
-        Ok(Row {
-            title: String::from_str(alloc, title)?,
+    pub fn nothing(alloc: Global) -> Row {
+        Row {
+            title: String::new(alloc),
             words: Vec::new(alloc),
             stream: Vec::new(alloc),
             shelf: Object::sound(alloc),
@@ -35,7 +37,7 @@ impl Row {
             err: Object::sound(alloc),
             sweeps: Vec::new(alloc),
             wanted: Wanted::nothing(alloc),
-        })
+        }
     }
 
     /// Reads a line of the row.
@@ -43,92 +45,87 @@ impl Row {
         let (key, rest) = split_key(line);
         match key {
             "words" => push_words(alloc, &mut self.words, rest),
-            "word" => Ok(self.words.push(String::from_str(alloc, rest)?)?),
-            "stream" => push_stream(&mut self.stream, &hex_bytes(alloc, rest)?),
-            "code" => push_stream(&mut self.stream, &word_bytes(alloc, rest)?),
-            "code-times" => {
-                let (count, words) = counted(rest)?;
-                push_times(&mut self.stream, count, &word_bytes(alloc, words)?)
-            }
-            "typed" => push_typed(&mut self.stream, rest),
-            "typed-part" => push_stream(&mut self.stream, unquoted(rest).as_bytes()),
-            "typed-times" => {
-                let (count, text) = counted(rest)?;
-                push_times(&mut self.stream, count, unquoted(text).as_bytes())
-            }
-            "shelf" | "input" | "out" | "err" => {
-                let (detail, value) = split_key(rest);
-                self.take_object(alloc, Target::read(key)?, detail, value)
-            }
+            "word" => push_word(alloc, &mut self.words, rest),
+            "shelf" => take_object(&mut self.shelf, rest),
+            "input" => take_object(&mut self.input, rest),
+            "out" => take_object(&mut self.out, rest),
+            "err" => take_object(&mut self.err, rest),
             "sweep" => push_targets(&mut self.sweeps, rest),
+            "stream" | "code" | "code-times" | "typed" | "typed-part" | "typed-times" => {
+                push_stream(&mut self.stream, key, rest)
+            }
             _ => self.wanted.take(alloc, key, rest),
         }
     }
 
-    /// Reads what a line says of an object.
-    fn take_object(
-        &mut self,
-        alloc: Global,
-        target: Target,
-        key: &str,
-        value: &str,
-    ) -> Result<(), Stop> {
-        match target {
-            Target::Shelf => self.shelf.take(alloc, key, value),
-            Target::Input => self.input.take(alloc, key, value),
-            Target::Out => self.out.take(alloc, key, value),
-            Target::Err => self.err.take(alloc, key, value),
-        }
-    }
-
-    /// The documents that the words name, each with its bytes.
-    pub fn documents<R: Files + AllocGlobal>(
+    /// Puts the documents that the words name onto a shelf.
+    pub fn push_documents<R: Files + AllocGlobal>(
         &self,
         rt: &R,
         book: &Book,
-    ) -> Result<Vec<(String, Vec<u8>)>, Stop> {
-        let mut documents = Vec::new(rt.alloc());
+        documents: &mut Documents,
+    ) -> Result<(), Stop> {
         for word in &self.words {
             let (_, name) = word.as_str().split_once('=').unwrap_or(("", ""));
-            if let Some(bytes) = book.bytes_of(rt, name)? {
-                push_document(rt.alloc(), &mut documents, name, bytes)?;
-            }
+            book.push_document(rt, documents, name)?;
         }
-        Ok(documents)
+        Ok(())
     }
 }
 
-fn push_document(
-    alloc: Global,
-    documents: &mut Vec<(String, Vec<u8>)>,
-    name: &str,
-    bytes: Vec<u8>,
-) -> Result<(), Stop> {
-    let name = String::from_str(alloc, name)?;
-    documents.push((name, bytes))?;
-    Ok(())
+/// Reads what a line says of an object.
+fn take_object(object: &mut Object, rest: &str) -> Result<(), Stop> {
+    let (key, value) = split_key(rest);
+    object.take(key, value)
 }
 
 fn push_words(alloc: Global, words: &mut Vec<String>, text: &str) -> Result<(), Stop> {
     for word in text.split_whitespace() {
-        words.push(String::from_str(alloc, word)?)?;
+        push_word(alloc, words, word)?;
     }
     Ok(())
 }
 
-fn push_stream(stream: &mut Vec<u8>, bytes: &[u8]) -> Result<(), Stop> {
-    Ok(stream.extend_from_slice(bytes)?)
+fn push_word(alloc: Global, words: &mut Vec<String>, word: &str) -> Result<(), Stop> {
+    match String::from_str(alloc, word) {
+        Ok(word) => add(words, word),
+        Err(_) => Err(Stop::Broken),
+    }
 }
 
-/// Appends a line of text.
-fn push_typed(stream: &mut Vec<u8>, text: &str) -> Result<(), Stop> {
-    push_stream(stream, unquoted(text).as_bytes())?;
-    push_stream(stream, b"\n")
+/// Appends what a line gives of the stream.
+fn push_stream(stream: &mut Vec<u8>, key: &str, rest: &str) -> Result<(), Stop> {
+    match key {
+        "stream" => push_hex(stream, rest),
+        "code" => push_code(stream, rest),
+        "code-times" => push_code_times(stream, rest),
+        "typed" => push_line(stream, unquoted(rest)),
+        "typed-part" => append(stream, unquoted(rest).as_bytes()),
+        _ => push_typed_times(stream, rest),
+    }
+}
+
+fn push_code_times(stream: &mut Vec<u8>, rest: &str) -> Result<(), Stop> {
+    let (count, words) = counted(rest)?;
+    for _ in 0..count {
+        push_code(stream, words)?;
+    }
+    Ok(())
+}
+
+fn push_typed_times(stream: &mut Vec<u8>, rest: &str) -> Result<(), Stop> {
+    match counted(rest) {
+        Ok((count, text)) => push_times(stream, count, unquoted(text).as_bytes()),
+        Err(stop) => Err(stop),
+    }
 }
 
 fn push_targets(targets: &mut Vec<Target>, text: &str) -> Result<(), Stop> {
     for name in text.split_whitespace() {
-        targets.push(Target::read(name)?)?;
+        match Target::read(name) {
+            Ok(target) => add(targets, target)?,
+            Err(stop) => return Err(stop),
+        }
     }
     Ok(())
 }

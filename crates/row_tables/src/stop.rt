@@ -2,7 +2,7 @@
 use std::alloc::{AllocError, AllocFailed};
 use std::io;
 
-#[derive(Clone, Copy, Debug)]
+#[derive(Clone, Copy)]
 pub enum Stop {
     /// The line, or what it names, is not as the format of tables wants it.
     Line(&'static str),

@@ -1,5 +1,7 @@
 //! How a row has to end.
-use crate::bytes::{counted, hex_bytes, small_number, split_key, unquoted, word_bytes};
+use crate::bytes::{
+    append, append_text, counted, push_code, push_hex, push_line, small_number, split_key, unquoted,
+};
 use crate::piece::push_numbered;
 use crate::stop::Stop;
 use std::alloc::Global;
@@ -28,7 +30,7 @@ pub struct Wanted {
 }
 
 impl Wanted {
-    pub fn nothing(alloc: Global) -> Wanted {
+    pub(crate) fn nothing(alloc: Global) -> Wanted {
         Wanted {
             status: None,
             answer: String::new(alloc),
@@ -40,60 +42,70 @@ impl Wanted {
     }
 
     /// Reads a line on the end of the row.
-    pub fn take(&mut self, alloc: Global, key: &str, text: &str) -> Result<(), Stop> {
+    pub(crate) fn take(&mut self, alloc: Global, key: &str, text: &str) -> Result<(), Stop> {
         let text = unquoted(text);
         match key {
-            "status" => self.status = Some(small_number(text)?),
-            "answer" => self.answer = String::from_str(alloc, text)?,
-            "line" => push_line(&mut self.out, text)?,
-            "part" => self.out.extend_from_slice(text.as_bytes())?,
-            "gives" => self.out.extend_from_slice(&hex_bytes(alloc, text)?)?,
-            "gives-code" => self.out.extend_from_slice(&word_bytes(alloc, text)?)?,
-            "listed" => push_listed(alloc, &mut self.out, text)?,
-            "numbered" => push_numbered_lines(alloc, &mut self.out, text)?,
-            "says" => push_line(&mut self.err, text)?,
-            "says-part" => self.err.extend_from_slice(text.as_bytes())?,
-            "refuted" => self.refutes = Some(read_refutes(text)?),
-            "clause" => push_clause(&mut self.clauses, text)?,
-            _ => return Err(Stop::Line("no line of a row begins with this word")),
+            "status" => set_status(&mut self.status, text),
+            "answer" => append_text(&mut self.answer, text),
+            "says" => push_line(&mut self.err, text),
+            "says-part" => append(&mut self.err, text.as_bytes()),
+            "refuted" => set_refutes(&mut self.refutes, text),
+            "clause" => push_clause(&mut self.clauses, text),
+            _ => push_wanted(alloc, &mut self.out, key, text),
         }
-        Ok(())
     }
 }
 
-/// The numbers of variables and clauses.
-fn read_refutes(text: &str) -> Result<Refutes, Stop> {
+/// Appends what a line gives of what goes out.
+fn push_wanted(alloc: Global, out: &mut Vec<u8>, key: &str, text: &str) -> Result<(), Stop> {
+    match key {
+        "line" => push_line(out, text),
+        "part" => append(out, text.as_bytes()),
+        "gives" => push_hex(out, text),
+        "gives-code" => push_code(out, text),
+        "listed" => push_listed(alloc, out, text),
+        "numbered" => push_numbered_lines(alloc, out, text),
+        _ => Err(Stop::Line("no line of a row begins with this word")),
+    }
+}
+
+fn set_status(status: &mut Option<u32>, text: &str) -> Result<(), Stop> {
+    *status = Some(small_number(text)?);
+    Ok(())
+}
+
+/// Sets the numbers of variables and clauses.
+fn set_refutes(refutes: &mut Option<Refutes>, text: &str) -> Result<(), Stop> {
     let (variables, clauses) = split_key(text);
-    Ok(Refutes {
+    *refutes = Some(Refutes {
         variables: small_number(variables)?,
         clauses: small_number(clauses)?,
-    })
+    });
+    Ok(())
 }
 
 /// Appends the line of a clause with these literals.
 fn push_clause(out: &mut Vec<u8>, literals: &str) -> Result<(), Stop> {
-    out.push(b'c')?;
-    if !literals.is_empty() {
-        out.push(b' ')?;
-    }
+    let begin = if literals.is_empty() { "c" } else { "c " };
+    append(out, begin.as_bytes())?;
     push_line(out, literals)
-}
-
-fn push_line(out: &mut Vec<u8>, text: &str) -> Result<(), Stop> {
-    out.extend_from_slice(text.as_bytes())?;
-    out.push(b'\n')?;
-    Ok(())
 }
 
 /// Appends so many lines that end in the text, each behind the offset of its word.
 fn push_listed(alloc: Global, out: &mut Vec<u8>, text: &str) -> Result<(), Stop> {
     let (count, text) = counted(text)?;
     for number in 0..count {
-        let offset = u64::from(number) * 4;
-        let line = format!(in alloc; "{offset:08x} {text}")?;
-        push_line(out, line.as_str())?;
+        push_offset(alloc, out, u64::from(number) * 4)?;
+        push_line(out, text)?;
     }
     Ok(())
+}
+
+fn push_offset(alloc: Global, out: &mut Vec<u8>, offset: u64) -> Result<(), Stop> {
+    match format!(in alloc; "{offset:08x} ") {
+        Ok(offset) => append(out, offset.as_bytes()),
+        Err(_) => Err(Stop::Broken),
+    }
 }
 
 /// Appends so many lines of the text, each with its number, from 0, in place of each `#`.
@@ -101,7 +113,7 @@ fn push_numbered_lines(alloc: Global, out: &mut Vec<u8>, text: &str) -> Result<(
     let (count, text) = counted(text)?;
     for number in 0..count {
         push_numbered(alloc, out, number, text)?;
-        out.push(b'\n')?;
+        append(out, b"\n")?;
     }
     Ok(())
 }

@@ -1,11 +1,9 @@
 //! Plays tables of rows: each row is a run of the program over objects in memory, and how it has to end.
 #![tactic(auto)]
 
-mod came;
-mod judge;
+mod outside;
 mod play;
 mod player;
-mod refutation;
 mod watched;
 
 use player::Player;

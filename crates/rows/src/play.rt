@@ -1,101 +1,125 @@
-//! A row is played over objects in memory.
-use crate::came::Came;
-use crate::watched::Watched;
-use mrs_io::{MemShelf, MemSink, MemSource};
-use mrs_query::run;
-use row_tables::{Book, Object, Row, Stop, Target};
-use std::alloc::Global;
+//! A row is played, and what differs is told.
+use crate::outside::Outside;
+use row_tables::{
+    Came, Documents, Failing, Row, Stop, Tables, Target, push_broken, push_differences,
+    push_refutation, push_text, put_on_shelf,
+};
 use std::rt::Files;
 use std::thread::Threads;
 
-/// A call of an object that fails beside those that the row names.
-#[derive(Clone, Copy)]
-pub(crate) struct Failing {
-    pub(crate) target: Target,
-    pub(crate) call: u32,
-}
-
-/// Plays the row once.
-pub(crate) fn play<R: Files + AllocGlobal + Threads + Sync>(
+/// Plays the row that was read, and appends what differs, a line for each: nothing where it came as it is wanted.
+pub(crate) fn judge<R: Files + AllocGlobal + Threads + Sync>(
     rt: &R,
-    book: &Book,
-    row: &Row,
-    failing: Option<Failing>,
-) -> Result<Came, Stop> {
-    let alloc = rt.alloc();
-    let documents = row.documents(rt, book)?;
-    let fails = calls_of(alloc, &row.shelf, Target::Shelf, failing)?;
-    let mut shelf = Watched::new(MemShelf::new(alloc, documents, fails));
-    let mut input = Watched::new(source(alloc, row, failing)?);
-    let mut out = Watched::new(sink(alloc, &row.out, Target::Out, failing)?);
-    let mut err = Watched::new(sink(alloc, &row.err, Target::Err, failing)?);
-    let status = run(
-        rt, alloc, &row.words, &mut shelf, &mut input, &mut out, &mut err,
-    );
-    Ok(Came {
-        status: status.exit_number(),
-        answer: format!(in alloc; "{status:?}")?,
-        out: out.inner.taken().to_vec(alloc)?,
-        err: err.inner.taken().to_vec(alloc)?,
-        shelf: shelf.counts(),
-        input: input.counts(),
-        out_counts: out.counts(),
-        err_counts: err.counts(),
-    })
-}
-
-/// What `proof` prints of a log.
-pub(crate) fn proved<R: Files + AllocGlobal + Threads + Sync>(
-    rt: &R,
-    log: &[u8],
-) -> Result<Vec<u8>, Stop> {
-    let alloc = rt.alloc();
-    let mut words = Vec::new(alloc);
-    words.push(String::from_str(alloc, "proof")?)?;
-    words.push(String::from_str(alloc, "log=refutation")?)?;
-    let mut documents = Vec::new(alloc);
-    documents.push((String::from_str(alloc, "refutation")?, log.to_vec(alloc)?))?;
-    let mut shelf = MemShelf::new(alloc, documents, Vec::new(alloc));
-    let mut input = MemSource::new(alloc, Vec::new(alloc), 1, Vec::new(alloc));
-    let sound = Object::sound(alloc);
-    let mut out = sink(alloc, &sound, Target::Out, None)?;
-    let mut err = sink(alloc, &sound, Target::Err, None)?;
-    run(
-        rt, alloc, &words, &mut shelf, &mut input, &mut out, &mut err,
-    );
-    Ok(out.taken().to_vec(alloc)?)
-}
-
-/// The calls of an object that fail.
-fn calls_of(
-    alloc: Global,
-    object: &Object,
-    target: Target,
-    failing: Option<Failing>,
-) -> Result<Vec<u32>, Stop> {
-    let mut fails = object.fails.as_slice().to_vec(alloc)?;
-    match failing {
-        Some(more) if more.target == target => fails.push(more.call)?,
-        _ => {}
-    }
-    Ok(fails)
-}
-
-fn source(alloc: Global, row: &Row, failing: Option<Failing>) -> Result<MemSource, Stop> {
-    let fails = calls_of(alloc, &row.input, Target::Input, failing)?;
-    let stream = row.stream.as_slice().to_vec(alloc)?;
-    Ok(MemSource::new(alloc, stream, row.input.most.max(1), fails))
-}
-
-fn sink(
-    alloc: Global,
-    object: &Object,
-    target: Target,
-    failing: Option<Failing>,
-) -> Result<MemSink, Stop> {
-    let fails = calls_of(alloc, object, target, failing)?;
-    match MemSink::new(alloc, object.room, object.most.max(1), fails) {
-        Ok(sink) => Ok(sink),
+    report: &mut String,
+    tables: &Tables,
+) -> Result<(), Stop> {
+    let mut outside = outside(rt, tables, None)?;
+    let status = outside.run(rt, &tables.row.words);
+    match format!(in rt.alloc(); "{status:?}") {
+        Ok(answer) => {
+            let came = outside.came(status.exit_number(), answer.as_str());
+            judge_came(rt, report, tables, came)
+        }
         Err(_) => Err(Stop::Broken),
     }
+}
+
+/// The objects of the row that was read.
+fn outside<R: Files + AllocGlobal>(
+    rt: &R,
+    tables: &Tables,
+    failing: Option<Failing>,
+) -> Result<Outside, Stop> {
+    let mut documents = Vec::new(rt.alloc());
+    match tables.row.push_documents(rt, &tables.book, &mut documents) {
+        Ok(()) => Outside::new(rt.alloc(), documents, &tables.row, failing),
+        Err(stop) => Err(stop),
+    }
+}
+
+/// Appends what differs in how the row came out, and in runs in which a call fails.
+fn judge_came<R: Files + AllocGlobal + Threads + Sync>(
+    rt: &R,
+    report: &mut String,
+    tables: &Tables,
+    came: Came<'_>,
+) -> Result<(), Stop> {
+    push_differences(report, &tables.row, came)?;
+    push_said(rt, report, &tables.row, came)?;
+    let said = wanted_err(&tables.row, came);
+    for target in &tables.row.sweeps {
+        sweep(rt, report, tables, said, *target, came)?;
+    }
+    Ok(())
+}
+
+/// What has to be said: what the row wants, or the refutation that came where it wants one.
+fn wanted_err<'a>(row: &'a Row, came: Came<'a>) -> &'a [u8] {
+    match row.wanted.refutes {
+        Some(_) => came.err,
+        None => &row.wanted.err,
+    }
+}
+
+/// Appends what differs in what is said.
+fn push_said<R: AllocGlobal + Threads + Sync>(
+    rt: &R,
+    report: &mut String,
+    row: &Row,
+    came: Came<'_>,
+) -> Result<(), Stop> {
+    let Some(refutes) = row.wanted.refutes else {
+        return push_text(report, "err", &row.wanted.err, came.err);
+    };
+    let proof = proved(rt, came.err)?;
+    let proof = proof.came(0, "").out;
+    push_refutation(rt.alloc(), report, refutes, &row.wanted, came, proof)
+}
+
+/// The objects over which `proof` was run on a log.
+fn proved<R: AllocGlobal + Threads + Sync>(rt: &R, log: &[u8]) -> Result<Outside, Stop> {
+    let alloc = rt.alloc();
+    let mut row = Row::nothing(alloc);
+    row.take(alloc, "words proof log=refutation")?;
+    let mut documents = Vec::new(alloc);
+    put_log(rt, &mut documents, log)?;
+    let mut outside = Outside::new(alloc, documents, &row, None)?;
+    outside.run(rt, &row.words);
+    Ok(outside)
+}
+
+fn put_log<R: AllocGlobal>(rt: &R, documents: &mut Documents, log: &[u8]) -> Result<(), Stop> {
+    match log.to_vec(rt.alloc()) {
+        Ok(log) => put_on_shelf(rt.alloc(), documents, "refutation", log),
+        Err(_) => Err(Stop::Broken),
+    }
+}
+
+/// Plays the row with each call of the object failing in turn, and appends what does not end as it has to.
+fn sweep<R: Files + AllocGlobal + Threads + Sync>(
+    rt: &R,
+    report: &mut String,
+    tables: &Tables,
+    said: &[u8],
+    target: Target,
+    came: Came<'_>,
+) -> Result<(), Stop> {
+    let calls = u32::try_from(came.counts_on(target).calls).unwrap_or(u32::MAX);
+    for call in 0..calls {
+        play_failing(rt, report, tables, said, Failing { target, call })?;
+    }
+    Ok(())
+}
+
+fn play_failing<R: Files + AllocGlobal + Threads + Sync>(
+    rt: &R,
+    report: &mut String,
+    tables: &Tables,
+    said: &[u8],
+    failing: Failing,
+) -> Result<(), Stop> {
+    let mut outside = outside(rt, tables, Some(failing))?;
+    let status = outside.run(rt, &tables.row.words);
+    let came = outside.came(status.exit_number(), "");
+    push_broken(report, &tables.row, said, failing, came)
 }

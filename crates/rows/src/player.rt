@@ -1,17 +1,15 @@
 //! Tables are read line by line, and each row is played where its block ends.
-use crate::judge::judge;
-use row_tables::{Block, Book, Row, Stop};
+use crate::play::judge;
+use row_tables::{Stop, Tables};
 use std::alloc::Global;
+use std::fs;
 use std::rt::Files;
 use std::thread::Threads;
-use std::{fs, mem};
 
-/// What has been declared, the block that is being read, and what came so far.
+/// What was read, the line that began the row, and what came so far.
 #[derive(Drop)]
 pub(crate) struct Player {
-    book: Book,
-    block: Block,
-    /// The line that began the block.
+    tables: Tables,
     begun: usize,
     rows: u64,
     differing: u64,
@@ -21,8 +19,7 @@ pub(crate) struct Player {
 impl Player {
     pub(crate) fn new(alloc: Global) -> Player {
         Player {
-            book: Book::new(alloc),
-            block: Block::Nothing,
+            tables: Tables::new(alloc),
             begun: 0,
             rows: 0,
             differing: 0,
@@ -41,13 +38,24 @@ impl Player {
         };
         for (index, line) in text.as_str().lines().enumerate() {
             let number = index.saturating_add(1);
-            match self.take_line(rt, table, number, line) {
-                Ok(()) => {}
-                Err(Stop::Line(why)) => self.tell_bad(rt, table, number, why)?,
-                Err(Stop::Broken) => return Err(Stop::Broken),
-            }
+            let taken = self.take_line(rt, table, number, line);
+            self.pass(rt, table, number, taken)?;
         }
-        self.end_block(rt, table)
+        self.end_row(rt, table)
+    }
+
+    /// Tells a line that is not read, and goes on.
+    fn pass<R: Print>(
+        &mut self,
+        rt: &R,
+        table: &str,
+        line: usize,
+        taken: Result<(), Stop>,
+    ) -> Result<(), Stop> {
+        match taken {
+            Err(Stop::Line(why)) => self.tell_bad(rt, table, line, why),
+            taken => taken,
+        }
     }
 
     fn take_line<R: Files + Print + AllocGlobal + Threads + Sync>(
@@ -60,50 +68,49 @@ impl Player {
         if line.is_empty() || line.starts_with('#') {
             return Ok(());
         }
-        if !Block::is_begun_by(line) {
-            return self.block.take(rt, line);
+        if !Tables::is_begun_by(line) {
+            return self.tables.take(rt.alloc(), line);
         }
-        self.end_block(rt, table)?;
+        self.end_row(rt, table)?;
         self.begun = number;
-        self.block = Block::begun_by(rt.alloc(), &self.book, line)?;
-        Ok(())
+        self.tables.begin(rt.alloc(), line)
     }
 
-    /// Ends the block that is being read: a row is played, and what else it is goes into the book.
-    fn end_block<R: Files + Print + AllocGlobal + Threads + Sync>(
+    /// Plays the row that is being read, if one is.
+    fn end_row<R: Files + Print + AllocGlobal + Threads + Sync>(
         &mut self,
         rt: &R,
         table: &str,
     ) -> Result<(), Stop> {
-        let block = mem::replace(&mut self.block, Block::Nothing);
-        let ended = match block {
-            Block::Nothing => Ok(()),
-            Block::Document(document) => self.book.put_document(document),
-            Block::Frame(frame) => self.book.put_frame(frame),
-            Block::Row(row) => self.play_row(rt, table, &row),
-        };
-        match ended {
-            Err(Stop::Line(why)) => self.tell_bad(rt, table, self.begun, why),
-            ended => ended,
+        if !self.tables.has_row {
+            return Ok(());
         }
+        self.tables.has_row = false;
+        self.rows = self.rows.saturating_add(1);
+        let played = self.play_row(rt, table);
+        self.pass(rt, table, self.begun, played)
     }
 
     fn play_row<R: Files + Print + AllocGlobal + Threads + Sync>(
         &mut self,
         rt: &R,
         table: &str,
-        row: &Row,
     ) -> Result<(), Stop> {
-        self.rows = self.rows.saturating_add(1);
-        let report = judge(rt, &self.book, row)?;
+        let mut report = String::new(rt.alloc());
+        match judge(rt, &mut report, &self.tables) {
+            Ok(()) => self.tell_report(rt, table, report.as_str()),
+            Err(stop) => Err(stop),
+        }
+    }
+
+    fn tell_report<R: Print>(&mut self, rt: &R, table: &str, report: &str) -> Result<(), Stop> {
         if report.is_empty() {
             return Ok(());
         }
         self.differing = self.differing.saturating_add(1);
         let begun = self.begun;
-        let title = row.title.as_str();
-        println!(rt; "{table}:{begun}: {title}")?;
-        print!(rt; "{report}")?;
+        let title = self.tables.row.title.as_str();
+        println!(rt; "{table}:{begun}: {title}\n{report}")?;
         Ok(())
     }
 

@@ -1,13 +1,7 @@
 //! An object of the outside whose calls and moved bytes are counted.
 use mrs_io::{Failed, FetchFault, Shelf, Sink, Source};
+use row_tables::Counts;
 use std::alloc::Global;
-
-/// How many calls came, and how many bytes moved in them.
-#[derive(Clone, Copy)]
-pub(crate) struct Counts {
-    pub(crate) calls: u64,
-    pub(crate) moved: u64,
-}
 
 #[derive(Drop)]
 pub(crate) struct Watched<T> {
