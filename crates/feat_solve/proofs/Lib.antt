@@ -9,6 +9,5 @@ pub mod Jumps
 pub mod Taught
 pub mod Beyond
 pub mod Tabled
-pub mod Printed
 pub mod Lemmas
 pub mod Searches

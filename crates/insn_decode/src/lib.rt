@@ -17,3 +17,4 @@ mod splitting;
 pub use candidates::Candidates;
 pub use decider::Decider;
 pub use found::Found;
+pub use insn_tree::NoMemory;

@@ -32,6 +32,7 @@ mod written;
 
 pub use bare::push_bare_line;
 pub use full::push_line;
+pub use insn_tree::NoMemory;
 pub use leaf_text::push_leaf;
 pub use line_fault::{LineFault, LineWhy};
 pub use lines::{bare_line, line};

@@ -27,6 +27,7 @@ pub use checking::open_checks;
 pub use configuration::OpenedConfiguration;
 pub use counted::{Counted, FeatureCounts, SetCounts};
 pub use document::{DocFault, DocumentKind};
+pub use feat_proof::NoMemory;
 pub use opened::Opened;
 pub use opened_log::OpenedLog;
 pub use opening_configuration::open_configuration;
