@@ -202,7 +202,7 @@ module _ (lister : Lister) where
             within = omega (arith, length-append (h.front ++ piece_of p) l.lost, l.few);
             lines =
                 let e : (assembled_from 1 m (cut (take (length (h.front ++ piece_of p)) ((h.front ++ piece_of p) ++ l.lost))).whole).bytes ≡ h.bytes =
-                    ap (λ xs. (assembled_from 1 m (cut xs).whole).bytes) (take-append_seam (h.front ++ piece_of p) l.lost) ∙ ap (λ a. a.bytes) h.so_far.words in
+                ap (λ xs. (assembled_from 1 m (cut xs).whole).bytes) (take-append_seam (h.front ++ piece_of p) l.lost) ∙ ap (λ a. a.bytes) h.so_far.words in
                 subst (Appends w0.taken w.taken) (sym e) h.wrote;
           };
           reading = record { bytes = (h.front ++ piece_of p) ++ l.lost; taken = l.read; few = omega (arith, l.few) };

@@ -186,7 +186,7 @@ module _ (form : Form) (machine : Machine) (limit : ℕ) where
     rest_same =
         let whole = whole_of h.front h.reached.whole in
         let n : 4 * length (words_in (h.front ++ piece_of p)) ≡ offset + 4 * length (words_in (piece_of p)) =
-            rw (words_in-append h.front (piece_of p) whole) (omega (arith, length-append (words_in h.front) (words_in (piece_of p)), length-words_in h.front whole, h.offset_is)) in
+        rw (words_in-append h.front (piece_of p) whole) (omega (arith, length-append (words_in h.front) (words_in (piece_of p)), length-words_in h.front whole, h.offset_is)) in
         rw (n, rest_in-append h.front (piece_of p) whole) refl
 
     rest_is : rest_in (h.front ++ piece_of p) ≡ rest_in (piece_of p)
@@ -206,7 +206,7 @@ module _ (form : Form) (machine : Machine) (limit : ℕ) where
       no_rest : rest_in (piece_of p) ≡ [] → Keeps w.taken w1.taken → ListedSo work r0 w0 w1 run.Done
       no_rest none kept =
           let lines : stream_lines form machine (h.front ++ piece_of p) ≡ lines_of 0 (h.front ++ piece_of p) =
-              text ∙ ap (λ rest. lines_of 0 (h.front ++ piece_of p) ++ bytes_line form (offset + 4 * length (words_in (piece_of p))) rest) none ∙ append-nil _ in
+          text ∙ ap (λ rest. lines_of 0 (h.front ++ piece_of p) ++ bytes_line form (offset + 4 * length (words_in (piece_of p))) rest) none ∙ append-nil _ in
           all_told run.Done (ap stream_end (rest_is ∙ none)) (subst (Appends w0.taken w1.taken) (sym lines) (Appends-kept w0.taken w.taken w1.taken _ h.wrote kept))
 
       with_rest : (n : ℕ) → 0 < n → length (rest_in (piece_of p)) ≡ n → Appends w.taken w1.taken (rest_text form offset (piece_of p)) → ListedSo work r0 w0 w1 (run.Ragged n)

@@ -63,18 +63,24 @@ module _ (max : ℕ) (r0 r r1 : Reading) (p p1 : Pieces) (front : List ℕ) (h :
   -- as many bytes were taken as may be
   look_on : p1 ≡ p → p.left ≡ 0 → (result : Next) → LooksPast r r1 result → Comes max r0 r1 p p1 front result
   look_on same none next.Piece f = absurd f
-  look_on same none next.End f = (same, record {
-    read = subst (Consumes r0.left r1.left) (append-nil (front ++ piece_of p)) (Consumes-trans r0.left r.left r1.left (front ++ piece_of p) [] h.read f.0);
-    end = f.1;
-    few = omega (arith, length-append front (piece_of p), piece_size, h.size);
-    later = omega (arith, h.later, f.2);
-  })
-  look_on same none next.Limit f = (same, record {
-    byte = f.0.0;
-    read = Consumes-trans r0.left r.left r1.left (front ++ piece_of p) (f.0.0 ∷ []) h.read f.0.1;
-    size = omega (arith, length-append front (piece_of p), piece_size, h.size, none);
-    later = omega (arith, h.later, f.1);
-  })
+  look_on same none next.End f = (
+    same,
+    record {
+      read = subst (Consumes r0.left r1.left) (append-nil (front ++ piece_of p)) (Consumes-trans r0.left r.left r1.left (front ++ piece_of p) [] h.read f.0);
+      end = f.1;
+      few = omega (arith, length-append front (piece_of p), piece_size, h.size);
+      later = omega (arith, h.later, f.2);
+    },
+  )
+  look_on same none next.Limit f = (
+    same,
+    record {
+      byte = f.0.0;
+      read = Consumes-trans r0.left r.left r1.left (front ++ piece_of p) (f.0.0 ∷ []) h.read f.0.1;
+      size = omega (arith, length-append front (piece_of p), piece_size, h.size, none);
+      later = omega (arith, h.later, f.1);
+    },
+  )
   look_on same none next.Failed f = record {
     lost = [];
     read = Consumes-trans r0.left r.left r1.left (front ++ piece_of p) [] h.read f.1;
@@ -85,12 +91,15 @@ module _ (max : ℕ) (r0 r r1 : Reading) (p p1 : Pieces) (front : List ℕ) (h :
 
 -- the last piece was the end of the stream
 ended : (max : ℕ) (r0 r : Reading) (p : Pieces) (front : List ℕ) → Reached max r0 r p front → p.ended ≡ true → Comes max r0 r p p front next.End
-ended max r0 r p front h e = (refl, record {
-  read = h.read;
-  end = h.end e;
-  few = omega (arith, length-append front (piece_of p), piece_size max r0 r r p p front h, h.size);
-  later = h.later;
-})
+ended max r0 r p front h e = (
+  refl,
+  record {
+    read = h.read;
+    end = h.end e;
+    few = omega (arith, length-append front (piece_of p), piece_size max r0 r r p p front h, h.size);
+    later = h.later;
+  },
+)
 
 pub comes_ended : (r : Reading) (p : Pieces) → p.ended ≡ true → (max : ℕ) (r0 : Reading) (front : List ℕ) → Reached max r0 r p front → Comes max r0 r p p front next.End
 comes_ended r p e max r0 front h = ended max r0 r p front h e

@@ -93,11 +93,7 @@ impl Pieces {
 }
 
 /// Reads into the first `room` places of a buffer, and answers how many bytes it read: fewer only at the end of the stream.
-fn fill_front<S: Source>(
-    buffer: &mut [u8],
-    room: usize,
-    input: &mut S,
-) -> Result<usize, Failed>
+fn fill_front<S: Source>(buffer: &mut [u8], room: usize, input: &mut S) -> Result<usize, Failed>
     requires { room ≤ length buffer.old }
     ensures size { length buffer.new ≡ length buffer.old }
     ensures front { FillsFront room (S.reading input.old) (S.reading input.new) buffer.new result }
