@@ -4,6 +4,7 @@ use Rattle.std.proofs.lemmas.Result.{err_from_is_err_and}
 use Rattle.std.specs.Prelude.{[]}
 use Rattle.spec_lines.specs.LineFault.{Long}
 use Rattle.spec_command.specs.Commands.{AskList}
+use Rattle.line_form.specs.Forms.{form_of}
 use Rattle.mrs_command.specs.Commands.{release_of, configured_of}
 use Rattle.mrs_query.proofs.Fulfilling.{late_of_work, work_done_plainly, not_opened}
 use Rattle.mrs_query.proofs.commands.list.fulfil.Goals as goal
