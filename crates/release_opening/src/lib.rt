@@ -11,6 +11,7 @@ mod document;
 mod fetching;
 mod given;
 mod json;
+mod known;
 mod opened;
 mod opened_log;
 mod opening_configuration;

@@ -23,7 +23,7 @@ pub returns-in-Ok-Chosen-clause-kept : goal.returns-in-Ok-Chosen-clause-kept
 returns-in-Ok-Chosen-clause-kept c =
     let found = c.in-Ok-Chosen in
     let so = subst (λ o. Configures c.in-Ok.model c.args.pins.now o) found.field-0-is found.ensures.outcome in
-    is_chosen_of c.args.names.now c.args.features.now c.args.pins.now c.in-Ok.model found.config c.requires.held c.in-Ok.ensures so (omega (arith, c.atoms-atoms.ensures))
+    is_chosen_of c.args.names.now c.args.features.now c.args.pins.now c.in-Ok.model found.config c.requires.held c.in-Ok.ensures so (omega (arith, c.atoms_are_few.ensures))
 
 pub returns-in-Ok-Refuted-clause-chosen : goal.returns-in-Ok-Refuted-clause-chosen
 returns-in-Ok-Refuted-clause-chosen c =
