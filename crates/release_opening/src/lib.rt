@@ -4,7 +4,6 @@
 mod checking;
 mod choosing;
 mod configuration;
-mod configuration_lines;
 mod counted;
 mod counting;
 mod document;
