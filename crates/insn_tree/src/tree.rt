@@ -92,7 +92,8 @@ impl Tree {
 
     /// The arena of the nodes.
     pub fn arena(&self) -> &Arena
-        ensures { result.now ≡ record { nodes = self.now.nodes; exprs = self.now.exprs } }
+        ensures nodes { result.now.nodes ≡ self.now.nodes }
+        ensures exprs { result.now.exprs ≡ self.now.exprs }
     {
         &self.arena
     }

@@ -29,7 +29,7 @@ arena_read isa d before names a old new here is start e same put exprs held =
     answers-gives (instructions isa (root d)) (from_held before) ∙ ap (λ draft. gives (instructions isa (root d)) (counts draft)) (sym start) ∙ ap (λ there. gives (instructions isa there) (counts old)) (sym is) ∙ e.walked
     ∙ ap (λ placed. Ok (e.value, counts (record new { nodes = placed }))) (sym put)
     ∙ ap (λ placed. Ok (e.value, counts (record new { nodes = map (placed_node new.names) a.nodes; exprs = placed }))) (sym exprs)
-    ∙ ap (λ c. Ok (e.value, c)) (counts-placed new.names (record { nodes = a.nodes; exprs = a.exprs; parts = [] }))
+    ∙ ap (λ c. Ok (e.value, c)) (counts-placed new.names (record { nodes = a.nodes; exprs = a.exprs; links = []; layers = []; parts = [] }))
     ∙ ap (λ ns. Ok (e.value, arena_counts ns a)) (sym same)
     in
     let tree = ap (λ ns. map (placed_node ns) a.nodes) same ∙ put ∙ e.stands in

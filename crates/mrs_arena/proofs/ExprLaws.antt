@@ -1,5 +1,5 @@
 -- Laws of the arrays of expressions: each expression is made of those before it, and stays while more are put.
-use Rattle.std.proofs.Common.{◌≡◌, ◌∙◌, sym, ap, ap₂, refl, subst, ℕ, zero, suc, ◌+◌, ◌-◌, ◌≤◌, ◌<◌, List, [], ◌∷◌, ◌++◌, length, map, take, drop, Some, All, arith, length-append, length-drop}
+use Rattle.std.proofs.Common.{◌≡◌, ◌∙◌, sym, ap, ap₂, refl, subst, ℕ, zero, suc, ◌+◌, ◌-◌, ◌≤◌, ◌<◌, List, [], ◌∷◌, ◌++◌, length, map, take, drop, Option, Some, All, arith, length-append, length-drop}
 use Rattle.std.specs.Prelude.{slice_get, slice_range}
 use Rattle.std.proofs.lemmas.List.{get_or_append_left, get_or-map, length_push, drop-append-le, take-append-le, take-map, drop-map, length-map}
 use Rattle.std.proofs.lemmas.List.Elements.{All-head, All-tail, All-take, All-drop, All-append, All-weaker}
@@ -11,8 +11,8 @@ use Rattle.mrs_arena.specs.declared.expr_id.ExprId.{ExprId}
 use Rattle.mrs_arena.specs.declared.expr.ExprList.{ExprList}
 use Rattle.mrs_arena.specs.declared.expr.Expr.{Expr}
 use Rattle.mrs_arena.specs.declared.expr.Expr.TheVariants.{Truth, Integer, Bits, Name, Not, Binary, Call, Set, Join, Slice, Other}
-use Rattle.mrs_arena.specs.Expressions.{Expressions, expr_at, op_of, function_by, itself, listed, list_in, list_of, made, IsList, HasParts, with_expr}
-use Rattle.mrs_arena.specs.Table.{nested_from, nested, numbers, IsListBelow, IsBelow, AreBelow, AreMade}
+use Rattle.mrs_arena.specs.Expressions.{Expressions, expr_at, op_of, function_by, itself, listed, list_in, list_of, made, numbered, IsList, HasParts, with_expr}
+use Rattle.mrs_arena.specs.Table.{nested_from, nested, numbers, layers_of, IsListBelow, IsBelow, AreBelow, AreMade}
 
 -- ---- one expression
 
@@ -103,7 +103,7 @@ length-nested_from parts known [] = omega arith
 length-nested_from parts known (e ∷ es) = omega (arith, length-nested_from parts (with_expr e parts known) es, length_push known (made (expr_at known) parts e))
 
 -- there are as many as are kept
-pub length-put : (es : List Expr) (parts : List ℕ) (put : Expressions) → record { exprs = nested parts es; parts = parts } ≡ put → length put.exprs ≡ length es
+pub length-put : (es : List Expr) (parts : List ℕ) (put : Expressions) → record { exprs = nested parts es; layers = layers_of parts es; parts = parts } ≡ put → length put.exprs ≡ length es
 length-put es parts put is = omega (arith, ap (λ put. length put.exprs) is, length-nested_from parts [] es)
 
 -- those that are known stay
@@ -198,6 +198,24 @@ AreMade-more es parts more are room below = record {
   small = All-append (λ k. k < length es) parts more are.small below;
   below = AreBelow-more 0 parts more es are.below;
 }
+
+-- ---- expressions as they were put
+
+layers-more : (n : ℕ) (parts more : List ℕ) (es : List Expr) → AreBelow n parts es → layers_of (parts ++ more) es ≡ layers_of parts es
+layers-more n parts more [] below = refl
+layers-more n parts more (e ∷ es) below = ap₂ (λ x xs. x ∷ xs) (made-more numbered n parts more e below.0) (layers-more (n + 1) parts more es below.1)
+
+pub layers-kept : (parts more : List ℕ) (es : List Expr) → AreBelow 0 parts es → layers_of (parts ++ more) es ≡ layers_of parts es
+layers-kept parts more es below = layers-more 0 parts more es below
+
+-- one of them, where it is known of the expression
+pub layer-at : (f : Expr → ExprOf ℕ) (es : List Expr) (k : ℕ) (y : ExprOf ℕ) → k < length es → ((x : Expr) → slice_get es k ≡ Some x → f x ≡ y) → slice_get (map f es) k ≡ Some y
+layer-at f [] k y within is = absurd (omega arith)
+layer-at f (x ∷ es) zero y within is = ap Some (is x refl)
+layer-at f (x ∷ es) (suc k) y within is = let further : k < length es = omega arith in layer-at f es k y further is
+
+pub some-same : (o : Option Expr) (x y : Expr) → o ≡ Some x → o ≡ Some y → x ≡ y
+some-same o x y one two = let same : x ≡ y = cc in same
 
 -- ---- lists as they are read
 

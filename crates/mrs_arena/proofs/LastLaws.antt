@@ -36,7 +36,7 @@ IsLast-get nodes node at =
     IsLast-at nodes (length nodes - 1) node refl (omega arith) (sym (get_or_from_slice_get nodes (length nodes - 1) node node (sym at)))
 
 -- a write to the last place
-set-last : (front : List StoredNode) (node new : StoredNode) (n : ℕ) → n ≡ length (front ++ node ∷ []) - 1 → set (front ++ node ∷ []) n new ≡ front ++ new ∷ []
+pub set-last : (front : List StoredNode) (node new : StoredNode) (n : ℕ) → n ≡ length (front ++ node ∷ []) - 1 → set (front ++ node ∷ []) n new ≡ front ++ new ∷ []
 set-last front node new n last = set_at front node [] new n (omega (arith, length_push front node))
 
 -- the last node's items are as many as its range, and the named items on its path as many as are kept

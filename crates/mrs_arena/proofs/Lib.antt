@@ -12,6 +12,7 @@ pub mod FormedLaws
 pub mod ItemLaws
 pub mod OpenLaws
 pub mod LastLaws
+pub mod LinkLaws
 pub mod FillLaws
 pub mod ClosedLaws
 pub mod TreePaths

@@ -8,7 +8,7 @@ use Rattle.spec_instructions.specs.Tree.{Own}
 use Rattle.spec_instructions.specs.Codes.{own_code}
 use Rattle.mrs_arena.specs.declared.kind.Kind.{Kind}
 use Rattle.mrs_arena.specs.declared.kind.Kind.TheVariants.{Set, Group, Leaf, Alias}
-use Rattle.mrs_arena.specs.Flat.{FlatItem, FlatNode, ArenaParts, Built}
+use Rattle.mrs_arena.specs.Flat.{FlatItem, FlatNode, Links, ArenaParts, Built}
 use Rattle.mrs_arena.specs.Expressions.{Expressions}
 use Rattle.mrs_arena.specs.Placed.{Placed}
 
@@ -51,15 +51,26 @@ placed_code = code_by (Option ℕ × Own) (coded× (coded_option coded_ℕ) own_
 
 abbrev pub expressions_code : Coded Expressions
 expressions_code =
-    code_by (List (ExprOf ℕ) × List ℕ) (coded× (coded_list (expr_code coded_ℕ)) (coded_list coded_ℕ)) (λ put. (put.exprs, put.parts)) (λ p. record { exprs = p.0; parts = p.1 }) (λ _. refl)
+    code_by (List (ExprOf ℕ) × (List (ExprOf ℕ) × List ℕ)) (coded× (coded_list (expr_code coded_ℕ)) (coded× (coded_list (expr_code coded_ℕ)) (coded_list coded_ℕ)))
+    (λ put. (put.exprs, (put.layers, put.parts)))
+    (λ p. record { exprs = p.0; layers = p.1.0; parts = p.1.1 })
+    (λ _. refl)
+
+abbrev pub links_code : Coded Links
+links_code = code_by (Option ℕ × Option ℕ) (coded× (coded_option coded_ℕ) (coded_option coded_ℕ)) (λ l. (l.condition, l.preferred)) (λ p. record { condition = p.0; preferred = p.1 }) (λ _. refl)
 
 abbrev pub arena_code : Coded ArenaParts
 arena_code =
-    code_by (List FlatNode × List (ExprOf ℕ)) (coded× (coded_list flat_node_code) (coded_list (expr_code coded_ℕ))) (λ a. (a.nodes, a.exprs)) (λ p. record { nodes = p.0; exprs = p.1 }) (λ _. refl)
+    code_by (List FlatNode × (List (ExprOf ℕ) × (List Links × List (ExprOf ℕ))))
+    (coded× (coded_list flat_node_code) (coded× (coded_list (expr_code coded_ℕ)) (coded× (coded_list links_code) (coded_list (expr_code coded_ℕ)))))
+    (λ a. (a.nodes, (a.exprs, (a.links, a.layers))))
+    (λ p. record { nodes = p.0; exprs = p.1.0; links = p.1.1.0; layers = p.1.1.1 })
+    (λ _. refl)
 
 abbrev pub built_code : Coded Built
 built_code =
-    code_by (List FlatNode × (List (ExprOf ℕ) × List ℕ)) (coded× (coded_list flat_node_code) (coded× (coded_list (expr_code coded_ℕ)) (coded_list coded_ℕ)))
-    (λ b. (b.nodes, (b.exprs, b.parts)))
-    (λ p. record { nodes = p.0; exprs = p.1.0; parts = p.1.1 })
+    code_by (List FlatNode × (List (ExprOf ℕ) × (List Links × (List (ExprOf ℕ) × List ℕ))))
+    (coded× (coded_list flat_node_code) (coded× (coded_list (expr_code coded_ℕ)) (coded× (coded_list links_code) (coded× (coded_list (expr_code coded_ℕ)) (coded_list coded_ℕ)))))
+    (λ b. (b.nodes, (b.exprs, (b.links, (b.layers, b.parts)))))
+    (λ p. record { nodes = p.0; exprs = p.1.0; links = p.1.1.0; layers = p.1.1.1.0; parts = p.1.1.1.1 })
     (λ _. refl)

@@ -1,5 +1,5 @@
 -- Expressions by their numbers: what one stands for, given what its parts stand for.
-use Rattle.std.specs.Prelude.{ℕ, ◌+◌, ◌≤◌, ◌<◌, Bool, nat_lt, List, [], ◌∷◌, ◌++◌, length, map, slice_range, slice_index_or, All, ⊤}
+use Rattle.std.specs.Prelude.{ℕ, pos, ◌+◌, ◌≤◌, ◌<◌, Bool, nat_lt, List, [], ◌∷◌, ◌++◌, length, map, slice_range, slice_index_or, All, ⊤}
 use Rattle.spec_walk.specs.Limits.{expression_limit}
 use Rattle.spec_expressions.specs.Expression as expression
 use Rattle.spec_expressions.specs.Expression.{FunctionOf, ExprOf, ExprsOf, exprs_of}
@@ -15,9 +15,10 @@ use Rattle.mrs_arena.specs.declared.expr.Expr.TheVariants.{Truth, Integer, Bits,
 use Rattle.mrs_arena.specs.declared.expr_ref.ExprRef.{ExprRef}
 use Rattle.mrs_arena.specs.declared.expr_ref.ExprRef.TheVariants as ref
 
--- the expressions that were put, in the order of their numbers, and all parts of lists, one list behind the other
+-- the expressions that were put, in the order of their numbers, each also as it was put; and all parts of lists, one list behind the other
 pub record Expressions : Type 0 where
   pub exprs : List (ExprOf ℕ)
+  pub layers : List (ExprOf ℕ)
   pub parts : List ℕ
 
 -- the expression of a number
@@ -70,6 +71,10 @@ layer_by named at (ref.Set members) = expression.Set (list_of at members.now)
 layer_by named at (ref.Join parts) = expression.Join (list_of at parts.now)
 layer_by named at (ref.Slice bits high low) = expression.Slice (at bits.0) (at high.0) (at low.0)
 layer_by named at ref.Other = expression.Other
+
+-- the number of a part, which stands in the place of the part
+abbrev pub numbered : ℕ → ExprOf ℕ
+numbered k = expression.Integer (pos k)
 
 abbrev pub layer : (ℕ → ExprOf ℕ) → ExprRef → ExprOf ℕ
 layer at e = layer_by itself at e
@@ -156,6 +161,10 @@ HasName count Other = ⊤
 -- one more expression behind those that were put, and one more list behind the parts of others
 abbrev pub with_expr : Expr → List ℕ → List (ExprOf ℕ) → List (ExprOf ℕ)
 with_expr e parts exprs = exprs ++ made (expr_at exprs) parts e ∷ []
+
+-- and as it was put, with the numbers of its parts in their places
+abbrev pub with_layer : Expr → List ℕ → List (ExprOf ℕ) → List (ExprOf ℕ)
+with_layer e parts layers = layers ++ made numbered parts e ∷ []
 
 abbrev pub with_list : List ExprId → List ℕ → List ℕ
 with_list list parts = parts ++ map (λ part. part.0) list

@@ -21,15 +21,25 @@ pub record FlatNode : Type 0 where
   pub condition : Option (ExprOf ℕ)
   pub preferred : Option (ExprOf ℕ)
 
--- an arena: its nodes, and the expression of each number
+-- the numbers of a node's expressions
+pub record Links : Type 0 where
+  pub condition : Option ℕ
+  pub preferred : Option ℕ
+
+-- an arena: its nodes, and the expression of each number; and as they were put, the numbers of each node's expressions, and each expression
+-- with the numbers of its parts in their places
 pub record ArenaParts : Type 0 where
   pub nodes : List FlatNode
   pub exprs : List (ExprOf ℕ)
+  pub links : List Links
+  pub layers : List (ExprOf ℕ)
 
 -- what a builder has taken: besides them all parts of lists of expressions, one list behind the other
 pub record Built : Type 0 where
   pub nodes : List FlatNode
   pub exprs : List (ExprOf ℕ)
+  pub links : List Links
+  pub layers : List (ExprOf ℕ)
   pub parts : List ℕ
 
 -- a node of an arena as it is read back: its expressions by their numbers, and the number after its subtree

@@ -6,7 +6,7 @@ use Rattle.mrs_arena.specs.declared.node.StoredNode.{StoredNode}
 use Rattle.mrs_arena.specs.declared.node_id.NodeId.{NodeId}
 use Rattle.mrs_arena.specs.declared.expr_id.ExprId.{ExprId}
 use Rattle.mrs_arena.specs.Expressions.{expr_at}
-use Rattle.mrs_arena.specs.Flat.{FlatItem, FlatNode, ArenaNode}
+use Rattle.mrs_arena.specs.Flat.{FlatItem, FlatNode, Links, ArenaNode}
 use Rattle.mrs_arena.specs.Views.{flat_item}
 use Rattle.mrs_arena.specs.Paths.{end_of, IsPreorder}
 use Rattle.mrs_arena.specs.Nodes.{named_on}
@@ -30,6 +30,10 @@ flat_node exprs items node = node_with exprs node (map flat_item (slice_range it
 
 abbrev pub flat_nodes : List (ExprOf ℕ) → List Item → List StoredNode → List FlatNode
 flat_nodes exprs items nodes = map (flat_node exprs items) nodes
+
+-- the numbers of its expressions
+abbrev pub links_of : StoredNode → Links
+links_of node = record { condition = option_map (λ id. id.0) node.condition; preferred = option_map (λ id. id.0) node.preferred }
 
 abbrev pub arena_node : List Item → StoredNode → ArenaNode
 arena_node items node =

@@ -3,7 +3,7 @@ use Rattle.std.specs.Prelude.{ℕ, ◌-◌, Bool, false, ◌==◌, List, [], ◌
 use Rattle.std.specs.List.{list_any}
 use Rattle.spec_expressions.specs.Expression.{ExprOf}
 use Rattle.mrs_arena.specs.declared.kind.Kind.{Kind}
-use Rattle.mrs_arena.specs.Flat.{FlatItem, FlatNode}
+use Rattle.mrs_arena.specs.Flat.{FlatItem, FlatNode, Links}
 use Rattle.mrs_arena.specs.Paths.{ancestors}
 
 abbrev pub parents_of : List FlatNode → List (Option ℕ)
@@ -27,6 +27,9 @@ named_on nodes n = count_by (λ it. is_some it.name) (items_upward nodes n)
 abbrev pub new_node : Kind → ℕ → Option ℕ → FlatNode
 new_node kind name parent = record { kind = kind; name = name; parent = parent; items = []; condition = None; preferred = None }
 
+abbrev pub no_links : Links
+no_links = record { condition = None; preferred = None }
+
 -- a list with something else made of its last element
 abbrev pub at_last : {X : Type 0} → (X → X) → List X → List X
 at_last f [] = []
@@ -43,6 +46,13 @@ with_condition e nodes = at_last (λ node. record node { condition = Some e }) n
 
 abbrev pub with_preferred : ExprOf ℕ → List FlatNode → List FlatNode
 with_preferred e nodes = at_last (λ node. record node { preferred = Some e }) nodes
+
+-- the numbers of their expressions, so
+abbrev pub linking_condition : ℕ → List Links → List Links
+linking_condition e links = at_last (λ l. record l { condition = Some e }) links
+
+abbrev pub linking_preferred : ℕ → List Links → List Links
+linking_preferred e links = at_last (λ l. record l { preferred = Some e }) links
 
 -- one of the items has the name, if there is one
 abbrev pub has_name_id : ℕ → FlatItem → Bool

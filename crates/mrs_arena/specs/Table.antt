@@ -6,7 +6,7 @@ use Rattle.mrs_arena.specs.declared.expr_id.ExprId.{ExprId}
 use Rattle.mrs_arena.specs.declared.expr.ExprList.{ExprList}
 use Rattle.mrs_arena.specs.declared.expr.Expr.{Expr}
 use Rattle.mrs_arena.specs.declared.expr.Expr.TheVariants.{Truth, Integer, Bits, Name, Not, Binary, Call, Set, Join, Slice, Other}
-use Rattle.mrs_arena.specs.Expressions.{listed, IsList, with_expr}
+use Rattle.mrs_arena.specs.Expressions.{listed, IsList, numbered, made, with_expr}
 
 -- the expressions behind those that are known, each made of those before it
 abbrev pub nested_from : List ℕ → List (ExprOf ℕ) → List Expr → List (ExprOf ℕ)
@@ -18,6 +18,10 @@ numbers ids = map (λ id. id.0) ids
 
 abbrev pub nested : List ℕ → List Expr → List (ExprOf ℕ)
 nested parts exprs = nested_from parts [] exprs
+
+-- each expression as it was put
+abbrev pub layers_of : List ℕ → List Expr → List (ExprOf ℕ)
+layers_of parts exprs = map (made numbered parts) exprs
 
 -- the parts of an expression have numbers below one, and its list is one of those that were put
 abbrev pub IsListBelow : ℕ → List ℕ → ExprList → Type 0

@@ -23,30 +23,31 @@ pub struct Arena {
 impl Model for Arena {
     ghost use Rattle.mrs_arena.specs.Flat.{ArenaParts};
     ghost use Rattle.mrs_arena.specs.Codes.{arena_code};
-    ghost use Rattle.mrs_arena.specs.Inside.{flat_nodes, AreClosed};
+    ghost use Rattle.std.specs.Prelude.{map};
+    ghost use Rattle.mrs_arena.specs.Inside.{flat_nodes, links_of, AreClosed};
 
     ghost Value = { ArenaParts };
 
     ghost coded = { arena_code };
 
-    ghost view = { λ a. record { nodes = flat_nodes a.table.exprs a.items.items a.nodes.items; exprs = a.table.exprs } };
+    ghost view = { λ a. record { nodes = flat_nodes a.table.exprs a.items.items a.nodes.items; exprs = a.table.exprs; links = map links_of a.nodes.items; layers = a.table.layers } };
 
     ghost invariant = { λ a. AreClosed a.table.exprs a.nodes.items a.items.items };
 }
 
 impl Arena {
-    ghost use Rattle.std.specs.Prelude.{◌≡◌, ◌+◌, ◌<◌, ◌≤◌, length, All, IfSome, Some, slice_get};
+    ghost use Rattle.std.specs.Prelude.{◌≡◌, ◌+◌, ◌<◌, ◌≤◌, length, map, All, IfSome, Some, slice_get};
     ghost use Rattle.mrs_arena.specs.Paths.{ancestors, end_of, IsSubtree};
     ghost use Rattle.mrs_arena.specs.Nodes.{parents_of};
     ghost use Rattle.mrs_arena.specs.Formed.{AreNodes};
-    ghost use Rattle.mrs_arena.specs.Expressions.{expr_at, layer, Below};
+    ghost use Rattle.mrs_arena.specs.Expressions.{expr_at, layer, numbered, Below};
     ghost use Rattle.mrs_arena.specs.Views.{node_put};
-    ghost use Rattle.mrs_arena.specs.Inside.{flat_nodes, AreClosed};
+    ghost use Rattle.mrs_arena.specs.Inside.{flat_nodes, links_of, AreClosed};
 
     /// The arena of these nodes, items and expressions.
     pub(crate) fn from_parts(nodes: Vec<StoredNode>, items: Vec<Item>, table: ExprTable) -> Arena
         requires { AreClosed table.exprs nodes.items items.items }
-        ensures { result ≡ record { nodes = flat_nodes table.exprs items.items nodes.items; exprs = table.exprs } }
+        ensures { result ≡ record { nodes = flat_nodes table.exprs items.items nodes.items; exprs = table.exprs; links = map links_of nodes.items; layers = table.layers } }
     {
         Arena {
             nodes,
@@ -67,6 +68,7 @@ impl Arena {
     pub fn node(&self, n: NodeId) -> NodeRef<'_>
         requires { n.0 < length self.now.nodes }
         ensures own { slice_get self.now.nodes n.0 ≡ Some (node_put self.now.exprs result) }
+        ensures links { slice_get self.now.links n.0 ≡ Some (record { condition = result.condition; preferred = result.preferred }) }
         ensures parent { IfSome result.parent (λ p. p < n.0) }
         ensures condition { IfSome result.condition (λ e. e < length self.now.exprs) }
         ensures preferred { IfSome result.preferred (λ e. e < length self.now.exprs) }
@@ -93,6 +95,7 @@ impl Arena {
     pub fn expr(&self, e: ExprId) -> ExprRef<'_>
         requires { e.0 < length self.now.exprs }
         ensures layer { expr_at self.now.exprs e.0 ≡ layer (expr_at self.now.exprs) result }
+        ensures put { slice_get self.now.layers e.0 ≡ Some (layer numbered result) }
         ensures below { Below e.0 result }
     {
         self.table.get(e)

@@ -35,13 +35,14 @@ pub struct ArenaBuilder {
 impl Model for ArenaBuilder {
     ghost use Rattle.mrs_arena.specs.Flat.{Built};
     ghost use Rattle.mrs_arena.specs.Codes.{built_code};
-    ghost use Rattle.mrs_arena.specs.Inside.{flat_nodes, AreOpen};
+    ghost use Rattle.std.specs.Prelude.{map};
+    ghost use Rattle.mrs_arena.specs.Inside.{flat_nodes, links_of, AreOpen};
 
     ghost Value = { Built };
 
     ghost coded = { built_code };
 
-    ghost view = { λ b. record { nodes = flat_nodes b.table.exprs b.items.items b.nodes.items; exprs = b.table.exprs; parts = b.table.parts } };
+    ghost view = { λ b. record { nodes = flat_nodes b.table.exprs b.items.items b.nodes.items; exprs = b.table.exprs; links = map links_of b.nodes.items; layers = b.table.layers; parts = b.table.parts } };
 
     ghost invariant = { λ b. AreOpen b.table.exprs b.nodes.items b.items.items b.leaves b.aliases };
 }
@@ -50,15 +51,15 @@ impl ArenaBuilder {
     ghost use Rattle.std.specs.Prelude.{◌≡◌, ◌<◌, ◌↔◌, [], ◌∷◌, ◌++◌, ◌≤◌, length, IsTrue, nat_le, All, IfOk, OnOk, OnErr, option_map, true, false};
     ghost use Rattle.mrs_arena.specs.Paths.{IsPlace};
     ghost use Rattle.mrs_arena.specs.Views.{flat_item};
-    ghost use Rattle.mrs_arena.specs.Nodes.{parents_of, last_items, new_node, with_item, with_condition, with_preferred, is_taken};
+    ghost use Rattle.mrs_arena.specs.Nodes.{parents_of, last_items, new_node, no_links, with_item, with_condition, with_preferred, linking_condition, linking_preferred, is_taken};
     ghost use Rattle.mrs_arena.specs.Limits.{is_node_refused, is_item_refused};
     ghost use Rattle.mrs_arena.specs.Formed.{AreNodes};
     ghost use Rattle.spec_walk.specs.Limits.{expression_limit};
-    ghost use Rattle.mrs_arena.specs.Expressions.{expr_at, HasParts, with_expr, with_list, is_list_refused};
+    ghost use Rattle.mrs_arena.specs.Expressions.{expr_at, HasParts, with_expr, with_layer, with_list, is_list_refused};
 
     /// No nodes and no expressions.
     pub fn new(alloc: Global) -> ArenaBuilder
-        ensures { result ≡ record { nodes = []; exprs = []; parts = [] } }
+        ensures { result ≡ record { nodes = []; exprs = []; links = []; layers = []; parts = [] } }
     {
         ArenaBuilder {
             nodes: Vec::new(alloc),
@@ -81,7 +82,7 @@ impl ArenaBuilder {
     ) -> Result<NodeId, BuildFault>
         requires { IsPlace (parents_of self.old.nodes) (option_map (λ p. p.0) parent) }
         ensures number { IfOk result (λ id. id.0 ≡ length self.old.nodes) }
-        ensures put { OnOk result (self.new ≡ record self.old { nodes = self.old.nodes ++ new_node kind name.0 (option_map (λ p. p.0) parent) ∷ [] }) }
+        ensures put { OnOk result (self.new ≡ record self.old { nodes = self.old.nodes ++ new_node kind name.0 (option_map (λ p. p.0) parent) ∷ []; links = self.old.links ++ no_links ∷ [] }) }
         ensures room { OnOk result (is_node_refused self.old.nodes kind ≡ false) }
 
         ensures too_many { result ≡ Err BuildFault.TooMany → is_node_refused self.old.nodes kind ≡ true }
@@ -142,7 +143,7 @@ impl ArenaBuilder {
     pub fn expr(&mut self, e: Expr) -> Result<ExprId, BuildFault>
         requires { HasParts (length self.old.exprs) self.old.parts e }
         ensures number { IfOk result (λ id. id.0 ≡ length self.old.exprs) }
-        ensures put { OnOk result (self.new ≡ record self.old { exprs = with_expr e self.old.parts self.old.exprs }) }
+        ensures put { OnOk result (self.new ≡ record self.old { exprs = with_expr e self.old.parts self.old.exprs; layers = with_layer e self.old.parts self.old.layers }) }
         ensures room { OnOk result (nat_le expression_limit (length self.old.exprs) ≡ false) }
 
         ensures too_many { result ≡ Err BuildFault.TooMany → nat_le expression_limit (length self.old.exprs) ≡ true }
@@ -172,7 +173,7 @@ impl ArenaBuilder {
     pub fn condition(&mut self, e: ExprId)
         requires some { 0 < length self.old.nodes }
         requires put { e.0 < length self.old.exprs }
-        ensures set { self.new ≡ record self.old { nodes = with_condition (expr_at self.old.exprs e.0) self.old.nodes } }
+        ensures set { self.new ≡ record self.old { nodes = with_condition (expr_at self.old.exprs e.0) self.old.nodes; links = linking_condition e.0 self.old.links } }
         ensures formed { AreNodes self.new.nodes }
     {
         let last = self.nodes.len() - 1;
@@ -187,7 +188,7 @@ impl ArenaBuilder {
     pub fn preferred(&mut self, e: ExprId)
         requires some { 0 < length self.old.nodes }
         requires put { e.0 < length self.old.exprs }
-        ensures set { self.new ≡ record self.old { nodes = with_preferred (expr_at self.old.exprs e.0) self.old.nodes } }
+        ensures set { self.new ≡ record self.old { nodes = with_preferred (expr_at self.old.exprs e.0) self.old.nodes; links = linking_preferred e.0 self.old.links } }
         ensures formed { AreNodes self.new.nodes }
     {
         let last = self.nodes.len() - 1;
@@ -200,7 +201,7 @@ impl ArenaBuilder {
 
     /// What was put, with the ends of the subtrees.
     pub fn close(self) -> Arena
-        ensures { result ≡ record { nodes = self.nodes; exprs = self.exprs } }
+        ensures { result ≡ record { nodes = self.nodes; exprs = self.exprs; links = self.links; layers = self.layers } }
     {
         let ArenaBuilder {
             mut nodes,

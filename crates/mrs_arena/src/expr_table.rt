@@ -1,8 +1,9 @@
 //! Expressions as an arena keeps them.
 
 ghost use Rattle.std.specs.Prelude.{◌≡◌, ◌<◌, length, slice_get, slice_range, Some, ◌+◌};
-ghost use Rattle.mrs_arena.specs.Expressions.{expr_at, layer, Below, IsList};
+ghost use Rattle.mrs_arena.specs.Expressions.{expr_at, layer, made, numbered, Below, IsList};
 ghost use Rattle.mrs_arena.specs.Table.{nested, numbers, AreMade};
+ghost use Rattle.mrs_arena.specs.declared.expr.Expr.{Expr};
 
 use crate::expr::{Expr, ExprList};
 use crate::expr_id::ExprId;
@@ -22,25 +23,25 @@ pub(crate) struct ExprTable {
 impl Model for ExprTable {
     ghost use Rattle.mrs_arena.specs.Expressions.{Expressions};
     ghost use Rattle.mrs_arena.specs.Codes.{expressions_code};
-    ghost use Rattle.mrs_arena.specs.Table.{nested, numbers, AreMade};
+    ghost use Rattle.mrs_arena.specs.Table.{nested, numbers, layers_of, AreMade};
 
     ghost Value = { Expressions };
 
     ghost coded = { expressions_code };
 
-    ghost view = { λ t. record { exprs = nested (numbers t.parts.items) t.exprs.items; parts = numbers t.parts.items } };
+    ghost view = { λ t. record { exprs = nested (numbers t.parts.items) t.exprs.items; layers = layers_of (numbers t.parts.items) t.exprs.items; parts = numbers t.parts.items } };
 
     ghost invariant = { λ t. AreMade t.exprs.items (numbers t.parts.items) };
 }
 
 impl ExprTable {
-    ghost use Rattle.std.specs.Prelude.{◌≡◌, ◌+◌, ◌<◌, ◌≤◌, [], length, nat_le, true, false, All, IfOk, OnOk, OnErr};
+    ghost use Rattle.std.specs.Prelude.{◌≡◌, ◌+◌, ◌<◌, ◌≤◌, [], length, nat_le, true, false, All, IfOk, OnOk, OnErr, Some, slice_get};
     ghost use Rattle.spec_walk.specs.Limits.{expression_limit};
-    ghost use Rattle.mrs_arena.specs.Expressions.{expr_at, layer, Below, HasParts, with_expr, with_list, is_list_refused};
+    ghost use Rattle.mrs_arena.specs.Expressions.{expr_at, layer, Below, numbered, HasParts, with_expr, with_layer, with_list, is_list_refused};
 
     /// No expressions.
     pub fn new(alloc: Global) -> ExprTable
-        ensures { result ≡ record { exprs = []; parts = [] } }
+        ensures { result ≡ record { exprs = []; layers = []; parts = [] } }
     {
         ExprTable {
             exprs: Vec::new(alloc),
@@ -59,7 +60,7 @@ impl ExprTable {
     pub fn push(&mut self, e: Expr) -> Result<ExprId, BuildFault>
         requires { HasParts (length self.old.exprs) self.old.parts e }
         ensures number { IfOk result (λ id. id.0 ≡ length self.old.exprs) }
-        ensures put { OnOk result (self.new ≡ record self.old { exprs = with_expr e self.old.parts self.old.exprs }) }
+        ensures put { OnOk result (self.new ≡ record self.old { exprs = with_expr e self.old.parts self.old.exprs; layers = with_layer e self.old.parts self.old.layers }) }
         ensures room { OnOk result (nat_le expression_limit (length self.old.exprs) ≡ false) }
 
         ensures too_many { result ≡ Err BuildFault.TooMany → nat_le expression_limit (length self.old.exprs) ≡ true }
@@ -98,6 +99,7 @@ impl ExprTable {
     pub fn get(&self, e: ExprId) -> ExprRef<'_>
         requires { e.0 < length self.now.exprs }
         ensures layer { expr_at self.now.exprs e.0 ≡ layer (expr_at self.now.exprs) result }
+        ensures put { slice_get self.now.layers e.0 ≡ Some (layer numbered result) }
         ensures below { Below e.0 result }
     {
         read(&self.exprs, &self.parts, e)
@@ -109,6 +111,7 @@ fn read<'a>(exprs: &[Expr], parts: &'a [ExprId], e: ExprId) -> ExprRef<'a>
     requires made { AreMade exprs.now (numbers parts.now) }
     requires within { e.0 < length exprs.now }
     ensures layer { expr_at (nested (numbers parts.now) exprs.now) e.0 ≡ layer (expr_at (nested (numbers parts.now) exprs.now)) result }
+    ensures put { (x : Expr) → slice_get exprs.now e.0 ≡ Some x → made numbered (numbers parts.now) x ≡ layer numbered result }
     ensures below { Below e.0 result }
 {
     match at(exprs, e) {

@@ -1,6 +1,7 @@
 //! Reads the bits of an item: their range, their digits and the mask of those that are should-be.
 
-ghost use Rattle.std.specs.Prelude.{◌≡◌, ◌+◌, ◌≤◌, bit_and, is_some, map, None, IfOk, IfSome, unwrap_or, option_map, []};
+ghost use Rattle.std.specs.Prelude.{◌≡◌, ◌+◌, ◌≤◌, bit_and, is_some, map, None, IfOk, IfSome, unwrap_or, option_map, [], codes};
+ghost use Rattle.spec_walk.specs.Spot.{optional};
 ghost use Rattle.spec_bits.specs.PatternText.{pattern_in};
 ghost use Rattle.spec_instructions.specs.Encodeset.{is_range, range, pattern, value, marked_by, is_binary, masked, should_be};
 ghost use Rattle.bit_pattern.specs.Marks.{marks_of};
@@ -20,16 +21,24 @@ pub(crate) fn read_masked(here: &Here<'_>) -> Result<Item, ReadFault>
 {
     let range = read_range(&here.needed("range")?)?;
     let pattern = read_value(&here.needed("value")?, range.width)?;
-    let mask = match here.optional("should_be_mask") {
-        Some(mask) => Some(read_value(&mask, range.width)?),
-        None => None,
-    };
+    let mask = read_mask(here, range.width)?;
     Ok(Item {
         name: None,
         start: range.start,
         pattern,
         should: marked_digits(&pattern, mask),
     })
+}
+
+/// The mask of `width` digits, if there is one.
+fn read_mask(here: &Here<'_>, width: u8) -> Result<Option<Pattern>, ReadFault>
+    ensures walk { Gives result (optional (codes "should_be_mask") (value width) (spot_of here.now)) (λ mask. option_map digits_of mask) }
+    ensures width { IfOk result (λ mask. IfSome mask (λ p. p.width ≡ width)) }
+{
+    match here.optional("should_be_mask") {
+        Some(mask) => Ok(Some(read_value(&mask, width)?)),
+        None => Ok(None),
+    }
 }
 
 /// Bits of which all that are `0` or `1` are should-be.

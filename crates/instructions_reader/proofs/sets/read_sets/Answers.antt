@@ -2,6 +2,7 @@ use Rattle.std.proofs.Common.{◌≡◌, ◌||◌, ◌∙◌, sym, ap}
 use Rattle.mrs_walk.specs.Here.{spot_of}
 use Rattle.mrs_walk.proofs.AnswerLaws.{Puts-exit}
 use Rattle.instructions_reader.proofs.SetLaws.{SetsRead-none, SetsRead-bare, SetsRead-next, SetsRead-fails, sets_fail, sets_lack, sets_return}
+use Rattle.mrs_names.proofs.PlaceLaws.{IsExtended-refl, IsExtended-trans}
 use Rattle.instructions_reader.proofs.sets.read_sets.Goals as goal
 use Rattle.instructions_reader.proofs.sets.read_sets.Goals.{then-found, else-found}
 
@@ -35,3 +36,17 @@ returns-then-not-found-clause-walk c = sets_lack (spot_of c.args.here.now) c.in_
 
 pub returns-clause-walk : goal.returns-clause-walk
 returns-clause-walk c = sets_return (spot_of c.args.here.now) c.in_ok-sets.ensures c.loop-i.invariant c.loop-i-test.false c.if-not-found.false
+
+-- ---- names keep their numbers
+
+pub returns-in_err-sets-clause-kept : goal.returns-in_err-sets-clause-kept
+returns-in_err-sets-clause-kept c = IsExtended-refl c.args.draft.now.names
+
+pub returns-in_err-chosen-clause-kept : goal.returns-in_err-chosen-clause-kept
+returns-in_err-chosen-clause-kept c = IsExtended-trans c.args.draft.now.names c.loop-i.draft.names c.read_set.new.draft.names c.loop-i.invariant.kept c.in_err-chosen.ensures.kept
+
+pub returns-then-not-found-clause-kept : goal.returns-then-not-found-clause-kept
+returns-then-not-found-clause-kept c = c.loop-i.invariant.kept
+
+pub returns-clause-kept : goal.returns-clause-kept
+returns-clause-kept c = c.loop-i.invariant.kept

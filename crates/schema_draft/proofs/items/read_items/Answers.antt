@@ -1,6 +1,7 @@
 use Rattle.mrs_walk.specs.Here.{spot_of}
 use Rattle.mrs_walk.proofs.AnswerLaws.{Puts-exit}
 use Rattle.schema_draft.proofs.ItemLaws.{ItemsRead-none, ItemsRead-next, ItemsRead-fails, items_fail, items_return}
+use Rattle.mrs_names.proofs.PlaceLaws.{IsExtended-refl, IsExtended-trans}
 use Rattle.schema_draft.proofs.items.read_items.Goals as goal
 
 pub loop-i-init : goal.loop-i-init
@@ -20,3 +21,14 @@ loop-i-preserved c = ItemsRead-next c.loop-i.invariant _ c.loop-i-test.true c.in
 
 pub returns-clause-walk : goal.returns-clause-walk
 returns-clause-walk c = items_return c.args.draft.now c.loop-i.draft (spot_of c.args.here.now) c.loop-i.i _ c.in_ok-values.ensures c.loop-i.invariant c.loop-i-test.false
+
+-- ---- names keep their numbers
+
+pub returns-in_err-values-clause-kept : goal.returns-in_err-values-clause-kept
+returns-in_err-values-clause-kept c = IsExtended-refl c.args.draft.now.names
+
+pub returns-in_err-read_item-clause-kept : goal.returns-in_err-read_item-clause-kept
+returns-in_err-read_item-clause-kept c = IsExtended-trans c.args.draft.now.names c.loop-i.draft.names c.read_item.new.draft.names c.loop-i.invariant.kept c.in_err-read_item.ensures.kept
+
+pub returns-clause-kept : goal.returns-clause-kept
+returns-clause-kept c = c.loop-i.invariant.kept

@@ -1,11 +1,11 @@
-use Rattle.std.proofs.Common.{◌∙◌, sym, ap, subst, ℕ, List, [], ◌∷◌}
+use Rattle.std.proofs.Common.{◌∙◌, sym, ap, subst, ℕ, List, [], ◌∷◌, map}
 use Rattle.spec_expressions.specs.Expression.{ExprOf}
 use Rattle.mrs_arena.specs.declared.expr.Expr.{Expr}
 use Rattle.mrs_arena.specs.declared.item.Item.{Item}
 use Rattle.mrs_arena.specs.declared.node.StoredNode.{StoredNode}
-use Rattle.mrs_arena.specs.Flat.{FlatNode, Built}
-use Rattle.mrs_arena.specs.Expressions.{Expressions, expr_at, made, with_expr}
-use Rattle.mrs_arena.specs.Inside.{flat_nodes, AreOpen}
+use Rattle.mrs_arena.specs.Flat.{FlatNode, Links, Built}
+use Rattle.mrs_arena.specs.Expressions.{Expressions, expr_at, made, with_expr, with_layer}
+use Rattle.mrs_arena.specs.Inside.{flat_nodes, links_of, AreOpen}
 use Rattle.mrs_arena.proofs.OpenLaws.{flat_nodes-more, AreOpen-more}
 use Rattle.mrs_arena.proofs.builder.ArenaBuilder.expr.Goals as goal
 
@@ -17,18 +17,18 @@ invariant_of-self-2 c =
     (AreOpen-more table.exprs more c.self.inside.nodes.items c.self.inside.items.items c.self.inside.leaves c.self.inside.aliases c.self.invariant)
 
 -- what was taken, by what is kept
-abbrev built : Expressions → List FlatNode → Built
-built put nodes = record { nodes = nodes; exprs = put.exprs; parts = put.parts }
+abbrev built : Expressions → List Links → List FlatNode → Built
+built put links nodes = record { nodes = nodes; exprs = put.exprs; links = links; layers = put.layers; parts = put.parts }
 
 abbrev built_of : List Item → List StoredNode → Expressions → Built
-built_of items nodes put = built put (flat_nodes put.exprs items nodes)
+built_of items nodes put = built put (map links_of nodes) (flat_nodes put.exprs items nodes)
 
 -- one more expression
 abbrev grown_table : Expr → Expressions → Expressions
-grown_table e put = record put { exprs = with_expr e put.parts put.exprs }
+grown_table e put = record put { exprs = with_expr e put.parts put.exprs; layers = with_layer e put.parts put.layers }
 
 abbrev grown : Expr → Built → Built
-grown e b = record b { exprs = with_expr e b.parts b.exprs }
+grown e b = record b { exprs = with_expr e b.parts b.exprs; layers = with_layer e b.parts b.layers }
 
 pub returns-clause-put : goal.returns-clause-put
 returns-clause-put c =
@@ -36,5 +36,5 @@ returns-clause-put c =
     let nodes = c.self.inside.nodes.items in
     let items = c.self.inside.items.items in
     ap (built_of items nodes) c.in_ok-id.ensures.put
-    ∙ ap (built (grown_table c.args.e table)) (flat_nodes-more table.exprs (made (expr_at table.exprs) table.parts c.args.e ∷ []) items nodes c.self.invariant.said)
+    ∙ ap (built (grown_table c.args.e table) (map links_of nodes)) (flat_nodes-more table.exprs (made (expr_at table.exprs) table.parts c.args.e ∷ []) items nodes c.self.invariant.said)
     ∙ ap (grown c.args.e) c.self.view_is

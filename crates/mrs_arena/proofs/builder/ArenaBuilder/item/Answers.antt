@@ -1,15 +1,16 @@
-use Rattle.std.proofs.Common.{◌≡◌, ◌∙◌, sym, ap, subst, ◌+◌, ◌<◌, ◌-◌, ◌||◌, ◌&&◌, nat_le, List, length, false, is_some, slice_set, arith}
+use Rattle.std.proofs.Common.{◌≡◌, ◌∙◌, sym, ap, subst, ◌+◌, ◌<◌, ◌-◌, ◌||◌, ◌&&◌, nat_le, List, length, map, false, is_some, slice_set, arith}
 use Rattle.std.proofs.lemmas.List.{length-map}
 use Rattle.spec_instructions.specs.Limits.{item_limit, named_limit}
-use Rattle.mrs_arena.specs.Flat.{FlatNode, Built}
+use Rattle.mrs_arena.specs.Flat.{FlatNode, Links, Built}
 use Rattle.mrs_arena.specs.Expressions.{Expressions}
 use Rattle.mrs_arena.specs.Views.{flat_item}
 use Rattle.mrs_arena.specs.Nodes.{last_items, with_item, is_taken}
 use Rattle.mrs_arena.specs.Limits.{is_item_refused}
-use Rattle.mrs_arena.specs.Inside.{flat_node, flat_nodes, AreOpen}
+use Rattle.mrs_arena.specs.Inside.{flat_node, flat_nodes, links_of, AreOpen}
 use Rattle.mrs_arena.specs.declared.item.Item.{Item}
 use Rattle.mrs_arena.proofs.OpenLaws.{longer, counted}
 use Rattle.mrs_arena.proofs.LastLaws.{IsLast, IsLast-at, lacks_room, AreOpen-item_last, flat_nodes-item_last, is_item_refused-last}
+use Rattle.mrs_arena.proofs.LinkLaws.{links-item_last}
 use Rattle.mrs_arena.proofs.builder.ArenaBuilder.item.Goals as goal
 
 place : (c : goal.After-self-1) → c.len-last.result - 1 ≡ length c.self.inside.nodes.items - 1
@@ -41,8 +42,8 @@ invariant_of-self-2 c =
 abbrev grown : Item → Built → Built
 grown it b = record b { nodes = with_item (flat_item it) b.nodes }
 
-abbrev built : Expressions → List FlatNode → Built
-built put nodes = record { nodes = nodes; exprs = put.exprs; parts = put.parts }
+abbrev built : Expressions → List Links → List FlatNode → Built
+built put links nodes = record { nodes = nodes; exprs = put.exprs; links = links; layers = put.layers; parts = put.parts }
 
 pub returns-clause-put : goal.returns-clause-put
 returns-clause-put c =
@@ -51,9 +52,11 @@ returns-clause-put c =
     let node = c.index.result.now in
     let table = c.self.inside.table in
     let written = slice_set nodes (c.len-last.result - 1) (longer node (node.named + c.from.result)) in
-    ap (built table)
+    let links = map links_of written in
+    ap (built table links)
     (ap (λ its. flat_nodes table.exprs its written) c.in_ok-push.ensures.items
     ∙ flat_nodes-item_last table.exprs nodes node items c.self.inside.leaves c.self.inside.aliases c.args.it (c.len-last.result - 1) (node.named + c.from.result) c.self.invariant (last c) (place c))
+    ∙ ap (λ ls. built table ls (with_item (flat_item c.args.it) (flat_nodes table.exprs items nodes))) (links-item_last nodes node (c.len-last.result - 1) (node.named + c.from.result) (last c) (place c))
     ∙ ap (grown c.args.it) c.self.view_is
 
 pub returns-clause-room : goal.returns-clause-room

@@ -1,10 +1,12 @@
-use Rattle.std.proofs.Common.{◌≡◌, ◌∙◌, ap, refl, ℕ, List, ◌<◌, ◌-◌, length, Some, arith}
+use Rattle.std.proofs.Common.{◌≡◌, ◌∙◌, ap, refl, ℕ, List, ◌<◌, ◌-◌, length, map, Some, slice_set, arith}
 use Rattle.std.proofs.lemmas.List.{length-map}
-use Rattle.mrs_arena.specs.Flat.{FlatNode, Built}
+use Rattle.mrs_arena.specs.Flat.{FlatNode, Links, Built}
 use Rattle.mrs_arena.specs.Expressions.{Expressions, expr_at}
-use Rattle.mrs_arena.specs.Nodes.{with_preferred}
-use Rattle.mrs_arena.specs.Inside.{flat_node}
+use Rattle.mrs_arena.specs.Nodes.{with_preferred, linking_preferred}
+use Rattle.mrs_arena.specs.Inside.{flat_node, flat_nodes, links_of}
 use Rattle.mrs_arena.proofs.LastLaws.{IsLast, IsLast-at, AreOpen-saying_last, flat_nodes-saying_last, said_last}
+use Rattle.mrs_arena.proofs.OpenLaws.{saying}
+use Rattle.mrs_arena.proofs.LinkLaws.{links-saying_last}
 use Rattle.mrs_arena.proofs.builder.ArenaBuilder.preferred.Goals as goal
 
 place : (c : goal.After-self-1) → c.len-last.result - 1 ≡ length c.self.inside.nodes.items - 1
@@ -23,19 +25,23 @@ invariant_of-self c =
     AreOpen-saying_last exprs c.self.inside.nodes.items c.index-node.result.now c.self.inside.items.items c.self.inside.leaves c.self.inside.aliases c.index-node.result.now.condition (Some c.args.e) (c.len-last.result - 1) c.self.invariant (last c) (place c)
     said.0 (omega (arith, c.requires.put, ap (λ b. length b.exprs) c.self.view_is))
 
-abbrev built : Expressions → List FlatNode → Built
-built put nodes = record { nodes = nodes; exprs = put.exprs; parts = put.parts }
+abbrev built : Expressions → List Links → List FlatNode → Built
+built put links nodes = record { nodes = nodes; exprs = put.exprs; links = links; layers = put.layers; parts = put.parts }
 
 -- what was taken, with the preference of that number
 abbrev saying_so : ℕ → Built → Built
-saying_so e b = record b { nodes = with_preferred (expr_at b.exprs e) b.nodes }
+saying_so e b = record b { nodes = with_preferred (expr_at b.exprs e) b.nodes; links = linking_preferred e b.links }
 
 pub returns-clause-set : goal.returns-clause-set
 returns-clause-set c =
     let table = c.self.inside.table in
-    ap (built table)
+    let nodes = c.self.inside.nodes.items in
+    let node = c.index-node.result.now in
+    let links = map links_of (slice_set nodes (c.len-last.result - 1) (saying node c.index-node.result.now.condition (Some c.args.e))) in
+    ap (built table links)
     (flat_nodes-saying_last table.exprs c.self.inside.nodes.items c.index-node.result.now c.self.inside.items.items c.index-node.result.now.condition (Some c.args.e) (c.len-last.result - 1) (λ node. record node { preferred = Some (expr_at table.exprs c.args.e.0) })
     (last c) (place c) refl)
+    ∙ ap (λ ls. built table ls (with_preferred (expr_at table.exprs c.args.e.0) (flat_nodes table.exprs c.self.inside.items.items nodes))) (links-saying_last nodes node c.index-node.result.now.condition (Some c.args.e) (c.len-last.result - 1) (λ l. record l { preferred = Some c.args.e.0 }) (last c) (place c) refl)
     ∙ ap (saying_so c.args.e.0) c.self.view_is
 
 pub returns-clause-formed : goal.returns-clause-formed

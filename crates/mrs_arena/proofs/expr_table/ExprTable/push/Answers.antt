@@ -1,10 +1,10 @@
-use Rattle.std.proofs.Common.{◌∙◌, sym, ap, subst, ℕ, List, length, arith}
+use Rattle.std.proofs.Common.{◌∙◌, sym, ap, subst, ℕ, List, [], ◌∷◌, ◌++◌, length, arith}
+use Rattle.std.proofs.lemmas.List.{map_push}
 use Rattle.std.proofs.lemmas.Bool.{le-leb, lt-leb}
 use Rattle.spec_walk.specs.Limits.{expression_limit}
-use Rattle.spec_expressions.specs.Expression.{ExprOf}
 use Rattle.mrs_arena.specs.declared.expr.Expr.{Expr}
-use Rattle.mrs_arena.specs.Expressions.{Expressions, HasParts, with_expr}
-use Rattle.mrs_arena.specs.Table.{nested, numbers, AreMade}
+use Rattle.mrs_arena.specs.Expressions.{Expressions, made, numbered, HasParts, with_expr, with_layer}
+use Rattle.mrs_arena.specs.Table.{nested, numbers, layers_of, AreMade}
 use Rattle.mrs_arena.proofs.ExprLaws.{length-put, nested-push, AreMade-push}
 use Rattle.mrs_arena.proofs.expr_table.ExprTable.push.Goals as goal
 
@@ -23,17 +23,19 @@ invariant_of-self-2 c =
 pub returns-clause-number : goal.returns-clause-number
 returns-clause-number c = omega (arith, c.len-number.ensures, c.self.inside.exprs.ok.0, length-put c.self.inside.exprs.items (numbers c.self.inside.parts.items) _ c.self.view_is)
 
-abbrev with_parts : List ℕ → List (ExprOf ℕ) → Expressions
-with_parts parts exprs = record { exprs = exprs; parts = parts }
+abbrev table_of : List ℕ → List Expr → Expressions
+table_of parts es = record { exprs = nested parts es; layers = layers_of parts es; parts = parts }
 
 abbrev pushed : Expr → Expressions → Expressions
-pushed e put = record put { exprs = with_expr e put.parts put.exprs }
+pushed e put = record put { exprs = with_expr e put.parts put.exprs; layers = with_layer e put.parts put.layers }
 
 pub returns-clause-put : goal.returns-clause-put
 returns-clause-put c =
     let parts = numbers c.self.inside.parts.items in
-    ap (λ es. with_parts parts (nested parts es)) c.in_ok-push.ensures.items
-    ∙ ap (with_parts parts) (nested-push parts c.self.inside.exprs.items c.args.e)
+    let es = c.self.inside.exprs.items in
+    ap (table_of parts) c.in_ok-push.ensures.items
+    ∙ ap (λ exprs. record { exprs = exprs; layers = layers_of parts (es ++ c.args.e ∷ []); parts = parts }) (nested-push parts es c.args.e)
+    ∙ ap (λ layers. record { exprs = with_expr c.args.e parts (nested parts es); layers = layers; parts = parts }) (map_push (made numbered parts) es c.args.e)
     ∙ ap (pushed c.args.e) c.self.view_is
 
 pub returns-clause-room : goal.returns-clause-room

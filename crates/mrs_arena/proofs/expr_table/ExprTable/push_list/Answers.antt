@@ -6,8 +6,8 @@ use Rattle.spec_expressions.specs.Expression.{ExprOf}
 use Rattle.mrs_arena.specs.declared.expr.Expr.{Expr}
 use Rattle.mrs_arena.specs.declared.expr_id.ExprId.{ExprId}
 use Rattle.mrs_arena.specs.Expressions.{Expressions, with_list}
-use Rattle.mrs_arena.specs.Table.{nested, numbers, AreMade}
-use Rattle.mrs_arena.proofs.ExprLaws.{length-put, nested-more, AreMade-more}
+use Rattle.mrs_arena.specs.Table.{nested, numbers, layers_of, AreMade}
+use Rattle.mrs_arena.proofs.ExprLaws.{length-put, nested-more, layers-kept, AreMade-more}
 use Rattle.mrs_arena.proofs.expr_table.ExprTable.push_list.Goals as goal
 
 pub invariant_of-self-2 : goal.invariant_of-self-2
@@ -22,10 +22,10 @@ invariant_of-self-2 c =
     subst (λ (parts : List ℕ). AreMade es parts) (sym (ap numbers c.in_ok-extend_from_slice.ensures.items ∙ map-append (λ id. id.0) ids more)) (AreMade-more es (numbers ids) (numbers more) c.self.invariant room below)
 
 abbrev table_of : List Expr → List ℕ → Expressions
-table_of es parts = record { exprs = nested parts es; parts = parts }
+table_of es parts = record { exprs = nested parts es; layers = layers_of parts es; parts = parts }
 
-abbrev with_nested : List ℕ → List (ExprOf ℕ) → Expressions
-with_nested parts exprs = record { exprs = exprs; parts = parts }
+abbrev with_nested : List ℕ → List (ExprOf ℕ) → List (ExprOf ℕ) → Expressions
+with_nested parts layers exprs = record { exprs = exprs; layers = layers; parts = parts }
 
 abbrev listed_too : List ExprId → Expressions → Expressions
 listed_too more put = record put { parts = with_list more put.parts }
@@ -36,5 +36,6 @@ returns-clause-put c =
     let ids = c.self.inside.parts.items in
     let more = c.args.parts.now in
     ap (table_of es) (ap numbers c.in_ok-extend_from_slice.ensures.items ∙ map-append (λ id. id.0) ids more)
-    ∙ ap (with_nested (numbers ids ++ numbers more)) (nested-more (numbers ids) (numbers more) es c.self.invariant.below)
+    ∙ ap (with_nested (numbers ids ++ numbers more) (layers_of (numbers ids ++ numbers more) es)) (nested-more (numbers ids) (numbers more) es c.self.invariant.below)
+    ∙ ap (λ layers. with_nested (numbers ids ++ numbers more) layers (nested (numbers ids) es)) (layers-kept (numbers ids) (numbers more) es c.self.invariant.below)
     ∙ ap (listed_too more) c.self.view_is
