@@ -1,6 +1,6 @@
 -- What the tables of a tree say of the paths that end at some nodes, be these leaves or aliases.
-use Rattle.std.proofs.Common.{◌≡◌, ◌∙◌, sym, ap, ℕ, ◌+◌, ◌<◌, ◌≤◌, Bool, cond, List, [], length, map, get_or, slice_get, Some, None, All, arith}
-use Rattle.std.specs.Prelude.{find}
+use Rattle.std.proofs.Common.{◌≡◌, ◌∙◌, sym, ap, ℕ, ◌+◌, ◌<◌, ◌≤◌, Bool, false, cond, List, [], length, map, get_or, slice_get, Some, None, All, arith}
+use Rattle.std.specs.Prelude.{find, is_none}
 use Rattle.std.specs.List.{range_with_len}
 use Rattle.std.proofs.lemmas.List.{length-map, get_or-map}
 use Rattle.std.proofs.lemmas.Option.{get_or_from_slice_get}
@@ -8,7 +8,6 @@ use Rattle.spec_instructions.specs.Fields.{fields, IsWithinWord}
 use Rattle.spec_instructions.specs.Paths.{label, labelled_path, has_label, path_items}
 use Rattle.spec_encoding.specs.Layout.{numbers}
 use Rattle.spec_encoding.specs.PathLayout.{layout}
-use Rattle.word_layout.specs.declared.layout.WordLayout.{WordLayout}
 use Rattle.word_layout.specs.Views.{numbers_of}
 use Rattle.mrs_names.specs.Texts.{AreNames}
 use Rattle.mrs_names.specs.declared.name_id.NameId.{NameId}
@@ -17,7 +16,10 @@ use Rattle.mrs_arena.specs.Flat.{FlatNode}
 use Rattle.mrs_arena.specs.Formed.{AreNodes}
 use Rattle.mrs_arena.specs.Placed.{path_to, AreHeld}
 use Rattle.insn_tree.specs.declared.field_range.FieldRange.{FieldRange}
+use Rattle.insn_tree.specs.declared.path_bits.PathBits.{PathBits}
 use Rattle.insn_tree.specs.declared.path_table.PathTable.{PathTable}
+use Rattle.insn_tree.specs.Words.{merged_at}
+use Rattle.insn_tree.specs.Bits.{merged_of}
 use Rattle.insn_tree.specs.Views.{flat_field}
 use Rattle.insn_tree.specs.Visible.{fields_at}
 use Rattle.insn_tree.specs.Layouts.{layout_at}
@@ -30,6 +32,7 @@ use Rattle.insn_tree.proofs.RangeLaws.{find_below}
 use Rattle.insn_tree.proofs.HoldLaws.{items_within}
 use Rattle.insn_tree.proofs.VisibleLaws.{text_field, fields-at}
 use Rattle.insn_tree.proofs.LayoutLaws.{ranges-fit, names-held, layout-numbers}
+use Rattle.insn_tree.proofs.BitsLaws.{merged-kept}
 use Rattle.insn_tree.proofs.LabelLaws.{label-end, end_name-held, number-end, labelled-end}
 
 module _ (nodes : List FlatNode) (ends : List ℕ) (table : PathTable) (kept : ArePaths nodes ends table) where
@@ -69,12 +72,22 @@ module _ (nodes : List FlatNode) (ends : List ℕ) (table : PathTable) (kept : A
     pub items_fit : (names : List (List ℕ)) → All IsWithinWord (path_items (path_to names nodes here))
     items_fit names = items_within names nodes kept.formed here
 
-    pub layout_kept : (b : WordLayout) → b ≡ get_or table.layouts.items k b → (names : List (List ℕ)) → AreNames names → AreHeld names nodes → numbers_of b ≡ numbers (layout (path_to names nodes here))
-    layout_kept b at names are held =
+    layout_here : (b : PathBits) → b ≡ get_or table.bits.items k b → numbers_of b.layout ≡ numbers (layout_at nodes here)
+    layout_here b at =
         let count : k < length (map (λ n. numbers (layout_at nodes n)) ends) = omega (arith, within, length-map ends (λ n. numbers (layout_at nodes n))) in
-        image-at numbers_of table.layouts.items (map (λ n. numbers (layout_at nodes n)) ends) kept.layouts_are k b (numbers (layout_at nodes 0)) count at
+        image-at (λ (b : PathBits). numbers_of b.layout) table.bits.items (map (λ n. numbers (layout_at nodes n)) ends) kept.layouts_are k b (numbers (layout_at nodes 0)) count at
         ∙ get_or-map (λ n. numbers (layout_at nodes n)) ends k 0 (numbers (layout_at nodes 0)) within
-        ∙ layout-numbers names are nodes held here
+
+    pub layout_kept : (b : PathBits) → b ≡ get_or table.bits.items k b → (names : List (List ℕ)) → AreNames names → AreHeld names nodes → numbers_of b.layout ≡ numbers (layout (path_to names nodes here))
+    layout_kept b at names are held = layout_here b at ∙ layout-numbers names are nodes held here
+
+    -- what its items fix together
+    pub merged_kept : (b : PathBits) → b ≡ get_or table.bits.items k b → merged_of b ≡ merged_at nodes here
+    merged_kept b at =
+        let count : k < length (map (λ n. is_none (merged_at nodes n)) ends) = omega (arith, within, length-map ends (λ n. is_none (merged_at nodes n))) in
+        merged-kept nodes here b (layout_here b at)
+        (image-at (λ (b : PathBits). b.clashes) table.bits.items (map (λ n. is_none (merged_at nodes n)) ends) kept.clashes_are k b false count at
+        ∙ get_or-map (λ n. is_none (merged_at nodes n)) ends k 0 false within)
 
     -- ---- labels
 

@@ -1,8 +1,6 @@
 -- What the table of leaves says of them.
 use Rattle.std.proofs.Common.{◌≡◌, ◌∙◌, sym, ap, subst, ℕ, ◌<◌, ◌≤◌, List, [], length, map, get_or, Option, None, option_map, arith}
 use Rattle.std.proofs.lemmas.List.{length-map, get_or-map}
-use Rattle.bit_pattern.specs.declared.pattern.Pattern.{Pattern}
-use Rattle.bit_pattern.specs.Views.{digits_of}
 use Rattle.spec_instructions.specs.Fields.{merged}
 use Rattle.spec_decode.specs.Verdict.{path_holds}
 use Rattle.spec_walk.specs.Limits.{node_limit}
@@ -11,9 +9,10 @@ use Rattle.mrs_arena.specs.Flat.{FlatNode}
 use Rattle.mrs_arena.specs.Formed.{AreNodes}
 use Rattle.mrs_arena.specs.Placed.{path_to, paths_of, leaves_of}
 use Rattle.insn_tree.specs.declared.leaf_table.LeafTable.{LeafTable}
-use Rattle.insn_tree.specs.Words.{merged_at}
+use Rattle.insn_tree.specs.declared.path_bits.PathBits.{PathBits}
+use Rattle.insn_tree.specs.Bits.{merged_of}
 use Rattle.insn_tree.specs.Kept.{AreLeaves}
-use Rattle.insn_tree.proofs.ListLaws.{image-at}
+use Rattle.insn_tree.proofs.KeptLaws as paths
 use Rattle.insn_tree.proofs.WordLaws.{merged-at}
 use Rattle.insn_tree.proofs.HoldLaws.{holds_of, merged-holds}
 
@@ -32,17 +31,14 @@ module _ (nodes : List FlatNode) (table : LeafTable) (kept : AreLeaves nodes tab
   abbrev here : ℕ
   here = get_or (leaves_of nodes) l 0
 
-  merged_here : (o : Option Pattern) → o ≡ get_or table.merged.items l o → option_map digits_of o ≡ merged_at nodes here
-  merged_here o at =
-      let count : l < length (map (merged_at nodes) (leaves_of nodes)) = omega (arith, within, length-map (leaves_of nodes) (merged_at nodes)) in
-      image-at (option_map digits_of) table.merged.items (map (merged_at nodes) (leaves_of nodes)) kept.merged_are l o None count at
-      ∙ get_or-map (merged_at nodes) (leaves_of nodes) l 0 None within
+  -- what the path of a leaf fixes together
+  pub merged_kept : (b : PathBits) → b ≡ get_or table.paths.bits.items l b → (names : List (List ℕ)) → merged_of b ≡ merged (get_or (paths_of names nodes) l [])
+  merged_kept b at names = paths.merged_kept nodes (leaves_of nodes) table.paths kept.paths l within b at ∙ sym (merged-at names nodes here) ∙ ap merged (sym (path-leaf names nodes l within))
 
-  pub merged_kept : (o : Option Pattern) → o ≡ get_or table.merged.items l o → (names : List (List ℕ)) → option_map digits_of o ≡ merged (get_or (paths_of names nodes) l [])
-  merged_kept o at names = merged_here o at ∙ sym (merged-at names nodes here) ∙ ap merged (sym (path-leaf names nodes l within))
-
-  pub holds_kept : (o : Option Pattern) → o ≡ get_or table.merged.items l o → (names : List (List ℕ)) (w : ℕ) → holds_of (option_map digits_of o) w ≡ path_holds (get_or (paths_of names nodes) l []) w
-  holds_kept o at names w =
-      ap (λ ds. holds_of ds w) (merged_here o at ∙ sym (merged-at names nodes here))
-      ∙ merged-holds names nodes kept.paths.formed here w
-      ∙ ap (λ path. path_holds path w) (sym (path-leaf names nodes l within))
+-- and where that holds at a word
+pub holds_kept : (nodes : List FlatNode) → AreNodes nodes → (l : ℕ) → l < length (leaves_of nodes) → (names : List (List ℕ)) (w : ℕ) → holds_of (merged (get_or (paths_of names nodes) l [])) w ≡ path_holds (get_or (paths_of names nodes) l []) w
+holds_kept nodes formed l within names w =
+    let is = path-leaf names nodes l within in
+    ap (λ path. holds_of (merged path) w) is
+    ∙ merged-holds names nodes formed (get_or (leaves_of nodes) l 0) w
+    ∙ ap (λ path. path_holds path w) (sym is)

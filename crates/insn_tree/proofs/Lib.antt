@@ -8,6 +8,7 @@ mod LeafLaws
 mod CountLaws
 mod LabelLaws
 mod PartLaws
+mod BitsLaws
 mod KeptLaws
 mod LeafKeptLaws
 mod AliasLaws

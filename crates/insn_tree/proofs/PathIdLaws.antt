@@ -5,7 +5,6 @@ use Rattle.spec_instructions.specs.Paths.{label, path_items}
 use Rattle.spec_instructions.specs.Fields.{fields, IsWithinWord}
 use Rattle.spec_encoding.specs.Layout.{numbers}
 use Rattle.spec_encoding.specs.PathLayout.{layout}
-use Rattle.word_layout.specs.declared.layout.WordLayout.{WordLayout}
 use Rattle.word_layout.specs.Views.{numbers_of}
 use Rattle.mrs_names.specs.Texts.{AreNames}
 use Rattle.mrs_names.specs.declared.name_id.NameId.{NameId}
@@ -13,6 +12,7 @@ use Rattle.mrs_arena.specs.declared.node_id.NodeId.{NodeId}
 use Rattle.mrs_arena.specs.Formed.{AreNodes}
 use Rattle.mrs_arena.specs.Placed.{path_to, AreHeld}
 use Rattle.insn_tree.specs.declared.field_range.FieldRange.{FieldRange}
+use Rattle.insn_tree.specs.declared.path_bits.PathBits.{PathBits}
 use Rattle.insn_tree.specs.declared.path_id.PathId.{PathId}
 use Rattle.insn_tree.specs.declared.path_id.PathId.TheVariants as path
 use Rattle.insn_tree.specs.declared.path_table.PathTable.{PathTable}
@@ -61,7 +61,7 @@ module _ (tree : TreeParts) (p : PathId) (of : IsPathOf tree p) (table : PathTab
   pub fields_held : (fs : List FieldRange) → slice_get table.fields k ≡ Some (map flat_field fs) → (names : List (List ℕ)) → AreHeld names tree.nodes → All (λ f. f.name.0 < length names) fs
   fields_held fs at = kept.fields_held tree.nodes (ends tree.nodes p) table are k within fs at
 
-  pub layout_kept : (b : WordLayout) → b ≡ get_or table.layouts.items k b → (names : List (List ℕ)) → AreNames names → AreHeld names tree.nodes → numbers_of b ≡ numbers (layout (path_of names tree p))
+  pub layout_kept : (b : PathBits) → b ≡ get_or table.bits.items k b → (names : List (List ℕ)) → AreNames names → AreHeld names tree.nodes → numbers_of b.layout ≡ numbers (layout (path_of names tree p))
   layout_kept b at names names_are held = kept.layout_kept tree.nodes (ends tree.nodes p) table are k within b at names names_are held ∙ ap (λ (path : List Own). numbers (layout path)) (sym (path-here names))
 
   pub items_fit : (names : List (List ℕ)) → All IsWithinWord (path_items (path_of names tree p))

@@ -1,5 +1,5 @@
 -- What a tree keeps of the nodes of an arena.
-use Rattle.std.specs.Prelude.{◌≡◌, ◌<◌, ◌≤◌, ℕ, ◌+◌, List, length, map, option_map, All, IfSome}
+use Rattle.std.specs.Prelude.{◌≡◌, ◌<◌, ◌≤◌, ℕ, ◌+◌, List, length, map, option_map, is_none, All, IfSome}
 use Rattle.spec_walk.specs.Limits.{node_limit}
 use Rattle.bit_pattern.specs.Views.{digits_of}
 use Rattle.spec_encoding.specs.Layout.{numbers}
@@ -26,12 +26,11 @@ pub record ArePaths (nodes : List FlatNode) (ends : List ℕ) (table : PathTable
   pub names_are : map (λ name. name.0) table.names.items ≡ end_names nodes ends
   pub shared_are : table.shared.items ≡ map (is_shared (end_names nodes ends)) (end_names nodes ends)
   pub fields_are : table.fields ≡ map (fields_at nodes) ends
-  pub layouts_are : map numbers_of table.layouts.items ≡ map (λ n. numbers (layout_at nodes n)) ends
+  pub layouts_are : map (λ b. numbers_of b.layout) table.bits.items ≡ map (λ n. numbers (layout_at nodes n)) ends
+  pub clashes_are : map (λ b. b.clashes) table.bits.items ≡ map (λ n. is_none (merged_at nodes n)) ends
 
 pub record AreLeaves (nodes : List FlatNode) (table : LeafTable) : Type 0 where
   pub paths : ArePaths nodes (leaves_of nodes) table.paths
-  pub merged_are : map (option_map digits_of) table.merged.items ≡ map (merged_at nodes) (leaves_of nodes)
-  pub widths : All (λ merged. IfSome merged (λ p. p.width ≡ 32)) table.merged.items
   pub conditioned_are : table.conditioned.items ≡ map (is_conditioned nodes) (leaves_of nodes)
 
 pub record AreAliases (nodes : List FlatNode) (table : AliasTable) : Type 0 where

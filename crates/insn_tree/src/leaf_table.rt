@@ -9,19 +9,16 @@ ghost use Rattle.insn_tree.specs.Trees.{number_of};
 ghost use Rattle.insn_tree.specs.Kept.{AreLeaves};
 
 use crate::leaf_conditions::conditioned_leaves;
-use crate::leaf_word::merged_patterns;
 use crate::memory::NoMemory;
 use crate::path_table::{PathTable, describe_paths};
-use bit_pattern::Pattern;
 use mrs_arena::{Arena, NodeId};
 use mrs_names::Names;
 use std::alloc::Global;
 
-/// For each leaf its path, what that fixes, and whether a node on it has a condition.
+/// For each leaf its path, and whether a node on it has a condition.
 #[derive(Drop)]
 pub(crate) struct LeafTable {
     pub paths: PathTable,
-    pub merged: Vec<Option<Pattern>>,
     pub conditioned: Vec<bool>,
 }
 
@@ -39,12 +36,7 @@ pub(crate) fn describe_leaves(
     ensures leaves { IfOk result (AreLeaves arena.now.nodes) }
     ensures labels { IfOk result (λ t. (text : List ℕ) → number_of text t.paths.labels ≡ labelled_leaf (paths_of names.now arena.now.nodes) text) }
 {
-    let merged = merged_patterns(alloc, arena, &nodes)?;
     let conditioned = conditioned_leaves(alloc, arena, &nodes)?;
     let paths = describe_paths(alloc, arena, names, nodes)?;
-    Ok(LeafTable {
-        paths,
-        merged,
-        conditioned,
-    })
+    Ok(LeafTable { paths, conditioned })
 }

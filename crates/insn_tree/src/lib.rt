@@ -18,15 +18,16 @@ mod leaf_conditions;
 mod leaf_id;
 mod leaf_nodes;
 mod leaf_table;
-mod leaf_word;
 mod memory;
 mod namesakes;
+mod path_bits;
 mod path_conditions;
 mod path_fields;
 mod path_id;
 mod path_layout;
 mod path_names;
 mod path_table;
+mod path_word;
 mod shared;
 mod tree;
 

@@ -14,23 +14,23 @@ use crate::label_table::LabelTable;
 use crate::labels::find_labels;
 use crate::memory::NoMemory;
 use crate::namesakes::find_shared;
+use crate::path_bits::PathBits;
 use crate::path_fields::path_fields;
-use crate::path_layout::path_layouts;
+use crate::path_layout::bits_of_paths;
 use crate::path_names::path_names;
 use mrs_arena::{Arena, NodeId};
 use mrs_names::{NameId, Names};
 use std::alloc::Global;
-use word_layout::WordLayout;
 
 /// For each path the node that it ends at and that node's name, whether another of these paths has the name, the fields
-/// that are visible at its end, and what it says of the bits of words; and the paths by their labels.
+/// that are visible at its end, and what is known of the bits of words; and the paths by their labels.
 #[derive(Drop)]
 pub(crate) struct PathTable {
     pub nodes: Vec<NodeId>,
     pub names: Vec<NameId>,
     pub shared: Vec<bool>,
     pub fields: FieldTable,
-    pub layouts: Vec<WordLayout>,
+    pub bits: Vec<PathBits>,
     pub labels: LabelTable,
 }
 
@@ -52,14 +52,14 @@ pub(crate) fn describe_paths(
     let path_names = path_names(alloc, arena, &nodes)?;
     let shared = find_shared(alloc, &path_names, names.len())?;
     let fields = path_fields(alloc, arena, &nodes)?;
-    let layouts = path_layouts(alloc, arena, &nodes, &fields)?;
+    let bits = bits_of_paths(alloc, arena, &nodes, &fields)?;
     let labels = find_labels(alloc, names, &path_names, &shared)?;
     Ok(PathTable {
         nodes,
         names: path_names,
         shared,
         fields,
-        layouts,
+        bits,
         labels,
     })
 }

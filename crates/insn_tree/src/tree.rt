@@ -157,7 +157,7 @@ impl Tree {
             → numbers_of result ≡ numbers (layout (path_of names self.now p)) }
         ensures within { (names : List (List ℕ)) → All IsWithinWord (path_items (path_of names self.now p)) }
     {
-        self.paths(p).layouts[p.number() as usize]
+        self.paths(p).bits[p.number() as usize].layout
     }
 
     /// What is kept of the paths of a kind.
@@ -236,7 +236,7 @@ impl Tree {
         ensures bits { (names : List (List ℕ)) → option_map digits_of result ≡ merged (path_at names self.now l.0) }
         ensures width { IfSome result (λ p. p.width ≡ 32) }
     {
-        self.leaves.merged[l.0 as usize]
+        self.leaves.paths.bits[l.0 as usize].merged()
     }
 
     /// The visible fields in path order from the root and item order, each name once at its deepest item.
@@ -429,7 +429,7 @@ impl Tree {
         requires { l.0 < length (leaves_of self.now.nodes) }
         ensures { (names : List (List ℕ)) → result ≡ path_holds (path_at names self.now l.0) w }
     {
-        match self.leaves.merged[l.0 as usize] {
+        match self.leaves.paths.bits[l.0 as usize].merged() {
             Some(pattern) => pattern.holds(u128::from(w)),
             None => false,
         }

@@ -5,7 +5,6 @@ use Rattle.mrs_arena.specs.Flat.{FlatNode}
 use Rattle.mrs_arena.specs.Limits.{is_leaf}
 use Rattle.mrs_arena.specs.Placed.{leaves_of, has_kind, path_to}
 use Rattle.spec_instructions.specs.Paths.{labelled_path}
-use Rattle.insn_tree.specs.Words.{merged_at}
 use Rattle.insn_tree.specs.Conditions.{is_conditioned}
 use Rattle.insn_tree.specs.Kept.{ArePaths}
 use Rattle.insn_tree.proofs.ListLaws.{All-unmap, map-twice}
@@ -21,11 +20,8 @@ are_nodes : (nodes : List FlatNode) (items list : List NodeId) → map (λ n. n.
 are_nodes nodes items list leaves same =
     All-unmap (λ n. n < length nodes) (λ (n : NodeId). n.0) list (subst (All (λ n. n < length nodes)) (sym (ap (map (λ (n : NodeId). n.0)) same ∙ leaves)) (kept_within is_leaf nodes))
 
-pub merged_patterns-requires : goal.merged_patterns-requires
-merged_patterns-requires c = are_nodes c.args.arena.now.nodes c.args.nodes.items c.deref.result.now c.requires.leaves c.deref.ensures.value
-
 pub conditioned_leaves-requires : goal.conditioned_leaves-requires
-conditioned_leaves-requires c = are_nodes c.args.arena.now.nodes c.args.nodes.items c.deref-2.result.now c.requires.leaves c.deref-2.ensures.value
+conditioned_leaves-requires c = are_nodes c.args.arena.now.nodes c.args.nodes.items c.deref.result.now c.requires.leaves c.deref.ensures.value
 
 pub describe_paths-requires-clause-within : goal.describe_paths-requires-clause-within
 describe_paths-requires-clause-within c = subst (All (λ n. n < length c.args.arena.now.nodes)) (sym c.requires.leaves) (kept_within is_leaf c.args.arena.now.nodes)
@@ -41,9 +37,7 @@ returns-clause-leaves c =
     let leaves = c.requires.leaves in
     record {
       paths = subst (λ (ends : List ℕ). ArePaths nodes ends c.in_ok-paths.paths) leaves c.in_ok-paths.ensures.paths;
-      merged_are = c.in_ok-merged.ensures.digits ∙ ap (map (λ (n : NodeId). merged_at nodes n.0)) c.deref.ensures.value ∙ of_leaves (merged_at nodes) items (leaves_of nodes) leaves;
-      widths = c.in_ok-merged.ensures.widths;
-      conditioned_are = c.in_ok-conditioned.ensures ∙ ap (map (λ (n : NodeId). is_conditioned nodes n.0)) c.deref-2.ensures.value ∙ of_leaves (is_conditioned nodes) items (leaves_of nodes) leaves;
+      conditioned_are = c.in_ok-conditioned.ensures ∙ ap (map (λ (n : NodeId). is_conditioned nodes n.0)) c.deref.ensures.value ∙ of_leaves (is_conditioned nodes) items (leaves_of nodes) leaves;
     }
 
 pub returns-clause-labels : goal.returns-clause-labels

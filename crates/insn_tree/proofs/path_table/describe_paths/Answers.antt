@@ -1,4 +1,5 @@
 use Rattle.std.proofs.Common.{◌≡◌, ◌∙◌, sym, ap, refl, subst, ℕ, ◌<◌, List, length, map, get_or, All, arith}
+use Rattle.std.specs.Prelude.{is_none}
 use Rattle.std.proofs.lemmas.List.{length-map}
 use Rattle.std.proofs.lemmas.List.Elements.{All-map}
 use Rattle.mrs_arena.specs.declared.node_id.NodeId.{NodeId}
@@ -7,6 +8,7 @@ use Rattle.spec_encoding.specs.Layout.{numbers}
 use Rattle.insn_tree.specs.Ends.{name_at, is_shared}
 use Rattle.insn_tree.specs.Visible.{fields_at}
 use Rattle.insn_tree.specs.Layouts.{layout_at}
+use Rattle.insn_tree.specs.Words.{merged_at}
 use Rattle.insn_tree.proofs.ListLaws.{All-unmap, map-twice}
 use Rattle.insn_tree.proofs.LeafLaws.{held_name}
 use Rattle.insn_tree.proofs.KeptLaws.{labels_found}
@@ -48,11 +50,11 @@ find_shared-requires-clause-within c =
 pub path_fields-requires : goal.path_fields-requires
 path_fields-requires c = are_nodes (length c.args.arena.now.nodes) c.args.nodes.items c.deref-3.result.now c.requires.within c.deref-3.ensures.value
 
-pub path_layouts-requires-clause-nodes : goal.path_layouts-requires-clause-nodes
-path_layouts-requires-clause-nodes c = are_nodes (length c.args.arena.now.nodes) c.args.nodes.items c.deref-4.result.now c.requires.within c.deref-4.ensures.value
+pub bits_of_paths-requires-clause-nodes : goal.bits_of_paths-requires-clause-nodes
+bits_of_paths-requires-clause-nodes c = are_nodes (length c.args.arena.now.nodes) c.args.nodes.items c.deref-4.result.now c.requires.within c.deref-4.ensures.value
 
-pub path_layouts-requires-clause-visible : goal.path_layouts-requires-clause-visible
-path_layouts-requires-clause-visible c =
+pub bits_of_paths-requires-clause-visible : goal.bits_of_paths-requires-clause-visible
+bits_of_paths-requires-clause-visible c =
     c.in_ok-fields.ensures ∙ ap (map (λ (n : NodeId). fields_at c.args.arena.now.nodes n.0)) (c.deref-3.ensures.value ∙ sym c.deref-4.ensures.value)
 
 pub find_labels-requires-clause-held : goal.find_labels-requires-clause-held
@@ -81,7 +83,8 @@ returns-clause-paths c =
           ∙ sym (map-twice (λ (name : NameId). name.0) (is_shared (map (λ (n : NameId). n.0) c.in_ok-path_names.path_names.items)) c.in_ok-path_names.path_names.items)
           ∙ ap (λ ns. map (is_shared ns) ns) named;
       fields_are = c.in_ok-fields.ensures ∙ of_ends (fields_at nodes) items c.deref-3.result.now c.deref-3.ensures.value;
-      layouts_are = c.in_ok-layouts.ensures ∙ of_ends (λ n. numbers (layout_at nodes n)) items c.deref-4.result.now c.deref-4.ensures.value;
+      layouts_are = c.in_ok-bits.ensures.layouts ∙ of_ends (λ n. numbers (layout_at nodes n)) items c.deref-4.result.now c.deref-4.ensures.value;
+      clashes_are = c.in_ok-bits.ensures.clashes ∙ of_ends (λ n. is_none (merged_at nodes n)) items c.deref-4.result.now c.deref-4.ensures.value;
     }
 
 pub returns-clause-labels : goal.returns-clause-labels

@@ -2,7 +2,7 @@ use Rattle.std.proofs.Common.{◌≡◌, ◌<◌, IfSome, All, length, option_ma
 use Rattle.bit_pattern.specs.Views.{digits_of}
 use Rattle.insn_tree.specs.Upward.{upward}
 use Rattle.insn_tree.specs.Words.{join_item, merged_at}
-use Rattle.insn_tree.proofs.leaf_word.merged_pattern.Given as goal
+use Rattle.insn_tree.proofs.path_word.merged_pattern.Given as goal
 
 -- with what the nodes that are left fix it is all that the path fixes
 abbrev pub invariant-loop-above : goal.invariant-loop-above

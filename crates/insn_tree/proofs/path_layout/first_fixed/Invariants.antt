@@ -2,7 +2,7 @@ use Rattle.std.proofs.Common.{◌≡◌, ◌<◌, ℕ, All, length}
 use Rattle.word_layout.specs.Views.{fixed_in}
 use Rattle.insn_tree.specs.Upward.{upward}
 use Rattle.insn_tree.specs.Layouts.{fix_first, fixed_at}
-use Rattle.insn_tree.proofs.path_layout.fixed_bits.Given as goal
+use Rattle.insn_tree.proofs.path_layout.first_fixed.Given as goal
 
 -- with what the nodes that are left say it is all that the path says
 abbrev pub invariant-loop-above : goal.invariant-loop-above

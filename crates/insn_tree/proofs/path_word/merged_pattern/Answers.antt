@@ -4,7 +4,7 @@ use Rattle.bit_pattern.specs.Views.{digits_of}
 use Rattle.mrs_arena.specs.Views.{flat_item, node_put}
 use Rattle.insn_tree.specs.Words.{join_item, merged_at}
 use Rattle.insn_tree.proofs.UpwardLaws.{upward-step}
-use Rattle.insn_tree.proofs.leaf_word.merged_pattern.Goals as goal
+use Rattle.insn_tree.proofs.path_word.merged_pattern.Goals as goal
 
 pub loop-above-preserved : goal.loop-above-preserved
 loop-above-preserved c = record {
