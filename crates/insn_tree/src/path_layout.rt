@@ -61,12 +61,7 @@ fn should_be_bits(arena: &Arena, n: NodeId) -> FixedBits
 }
 
 /// What the path to a node, at which these fields are visible, and whose items fix that together, says of the bits of words.
-fn layout(
-    arena: &Arena,
-    n: NodeId,
-    fields: &[FieldRange],
-    merged: Option<Pattern>,
-) -> WordLayout
+fn layout(arena: &Arena, n: NodeId, fields: &[FieldRange], merged: Option<Pattern>) -> WordLayout
     requires node { n.0 < length arena.now.nodes }
     requires formed { AreNodes arena.now.nodes }
     requires visible { map flat_field fields.now ≡ fields_at arena.now.nodes n.0 }
