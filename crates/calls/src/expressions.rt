@@ -12,12 +12,18 @@ const WIDE: &str = "111111111111111111111111111111111111111111111111111111111111
 const TOO_WIDE: &str = "11111111111111111111111111111111111111111111111111111111111111111";
 
 pub(crate) fn tell_all(alloc: Global, out: &mut String) -> Option<()> {
-    let config = chosen(alloc)?;
-    tell_choices(out, &config)?;
-    tell_unsigned(alloc, out, &config, WIDE)?;
-    tell_unsigned(alloc, out, &config, TOO_WIDE)?;
-    tell_name(alloc, out, &config, NameId(7))?;
-    tell_name(alloc, out, &config, NameId(8))
+    match chosen(alloc) {
+        Some(config) => tell_under(alloc, out, &config),
+        None => None,
+    }
+}
+
+fn tell_under(alloc: Global, out: &mut String, config: &Config) -> Option<()> {
+    tell_choices(out, config)?;
+    tell_unsigned(alloc, out, config, WIDE)?;
+    tell_unsigned(alloc, out, config, TOO_WIDE)?;
+    tell_name(alloc, out, config, NameId(7))?;
+    tell_name(alloc, out, config, NameId(8))
 }
 
 /// The configuration in which parameter 7 is off, and of two atoms the first alone holds.

@@ -9,19 +9,17 @@ pub(crate) fn tell_all(alloc: Global, out: &mut String) -> Option<()> {
     let Ok(features) = Features::of_names(alloc, &[NameId(4), NameId(7), NameId(4)]) else {
         return None;
     };
-    let Ok(model) = Model::new(alloc, &features) else {
-        return None;
-    };
-    writeln!(
-        out,
-        "features {} atoms {}",
-        features.params.len(),
-        model.atoms()
-    )
-    .ok()?;
-    tell_configured(alloc, out, &model, &[pin(4, false)])?;
-    tell_configured(alloc, out, &model, &[pin(4, true), pin(4, false)])?;
-    tell_configured(alloc, out, &model, &[pin(7, true), pin(5, true)])
+    match Model::new(alloc, &features) {
+        Ok(model) => tell_model(alloc, out, features.params.len(), &model),
+        Err(_) => None,
+    }
+}
+
+fn tell_model(alloc: Global, out: &mut String, count: usize, model: &Model) -> Option<()> {
+    writeln!(out, "features {count} atoms {}", model.atoms()).ok()?;
+    tell_configured(alloc, out, model, &[pin(4, false)])?;
+    tell_configured(alloc, out, model, &[pin(4, true), pin(4, false)])?;
+    tell_configured(alloc, out, model, &[pin(7, true), pin(5, true)])
 }
 
 fn pin(name: u32, on: bool) -> Pin {

@@ -16,13 +16,25 @@ use std::sync::ledger::{Blank, Ledger};
 use step_count::Steps;
 
 pub(crate) fn tell_all(alloc: Global, out: &mut String) -> Option<()> {
-    let config = chosen(alloc)?;
-    let tree = tree(alloc)?;
+    match chosen(alloc) {
+        Some(config) => tell_under(alloc, out, &config),
+        None => None,
+    }
+}
+
+fn tell_under(alloc: Global, out: &mut String, config: &Config) -> Option<()> {
+    match tree(alloc) {
+        Some(tree) => tell_words(out, &tree, config),
+        None => None,
+    }
+}
+
+fn tell_words(out: &mut String, tree: &Tree, config: &Config) -> Option<()> {
     if tree.leaves() == 0 {
         return None;
     }
-    tell_word(out, &tree, &config, 0x8000_0000)?;
-    tell_word(out, &tree, &config, 0)
+    tell_word(out, tree, config, 0x8000_0000)?;
+    tell_word(out, tree, config, 0)
 }
 
 /// A set of one leaf, which fixes the highest bit.
