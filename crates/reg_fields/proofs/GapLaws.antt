@@ -1,11 +1,9 @@
 -- The gap that begins at a bit, and the gaps below one.
-use Rattle.std.proofs.Common.{◌≡◌, ◌∙◌, sym, ap, refl, ℕ, suc, ◌+◌, ◌-◌, ◌<◌, ◌≤◌, List, [], ◌∷◌, map, Bool, true, false, cond, None, arith}
-use Rattle.std.specs.List.{range_with_len, prefix_len}
-use Rattle.std.proofs.lemmas.Bool.{cases_lt}
+use Rattle.std.proofs.Common.{◌≡◌, ◌∙◌, sym, ap, ℕ, suc, ◌+◌, ◌-◌, ◌<◌, ◌≤◌, ◌∷◌, map, true, false, cond, None, arith}
+use Rattle.std.specs.List.{range_with_len}
 use Rattle.std.proofs.lemmas.List.FromFn.{length-range_with_len, get_or-range_with_len}
 use Rattle.std.proofs.lemmas.List.Sums.{prefix_len_is}
 use Rattle.std.proofs.lemmas.List.Folds.{length-prefix_len}
-use Rattle.spec_instructions.specs.Encodeset.{Range}
 use Rattle.spec_registers.specs.Gaps.{is_gap, begins_gap, gap_from, gaps_below}
 use Rattle.spec_registers.specs.View.{piece}
 use Rattle.spec_registers.proofs.GapLaws.{gaps_below-next}

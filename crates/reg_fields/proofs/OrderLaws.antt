@@ -1,8 +1,7 @@
 -- Registers by their names: what a sort keeps, and where those of a name stand.
 use Rattle.std.proofs.Common.{◌≡◌, ◌∙◌, sym, ap, refl, ℕ, zero, suc, ◌+◌, ◌-◌, ◌<◌, ◌≤◌, List, [], ◌∷◌, ◌++◌, length, map, filter, take, drop, get_or, Bool, true, false, not, cond, arith, ◌⊎◌, inl, inr}
-use Rattle.std.specs.Prelude.{◌&&◌, ◌==◌, nat_lt, nat_le}
+use Rattle.std.specs.Prelude.{◌&&◌, ◌==◌}
 use Rattle.std.specs.List.{enumerate_from}
-use Rattle.std.specs.List.Sorted.{ties}
 use Rattle.std.specs.Ordering.{is_lt, nat_cmp}
 use Rattle.std.proofs.lemmas.Bool.{eq-eqb, ne_eqb, lt-ltb, le-ltb, cases_lt, cases_order}
 use Rattle.std.proofs.lemmas.List.{take_more, map-append, length-map, length-take-le}
@@ -96,3 +95,9 @@ numbered-more n xs i d less =
     ap numbered (ap (map n) (take_more xs i d less) ∙ map-append n (take i xs) (get_or xs i d ∷ []))
     ∙ enumerate-with 0 (map n (take i xs)) (n (get_or xs i d))
     ∙ ap (λ m. numbered (map n (take i xs)) ++ (m, n (get_or xs i d)) ∷ []) long
+
+-- and one more pair behind theirs
+pub listed-more : {X Y : Type 0} (f : Y → ℕ × ℕ) (n : X → ℕ) (ys : List Y) (y : Y) (xs : List X) (i : ℕ) (d : X) → i < length xs
+    → map f ys ≡ numbered (map n (take i xs)) → f y ≡ (i, n (get_or xs i d)) → map f (ys ++ y ∷ []) ≡ numbered (map n (take (i + 1) xs))
+listed-more f n ys y xs i d less before is =
+    map-append f ys (y ∷ []) ∙ ap (λ ps. ps ++ f y ∷ []) before ∙ ap (λ p. numbered (map n (take i xs)) ++ p ∷ []) is ∙ sym (numbered-more n xs i d less)

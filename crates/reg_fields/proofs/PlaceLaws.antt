@@ -1,5 +1,5 @@
 -- Fieldsets of a document by their numbers.
-use Rattle.std.proofs.Common.{◌≡◌, ◌∙◌, sym, ap, refl, ℕ, ◌+◌, ◌<◌, ◌≤◌, List, [], length, map, take, drop, get_or, arith, ◌⊎◌, inl, inr, Some, option_map, min}
+use Rattle.std.proofs.Common.{◌≡◌, ◌∙◌, sym, ap, ℕ, ◌+◌, ◌<◌, ◌≤◌, List, [], length, map, drop, get_or, arith, ◌⊎◌, inl, inr, Some, option_map}
 use Rattle.std.specs.Prelude.{slice_get}
 use Rattle.spec_registers.specs.Registers.{FieldsetOf}
 use Rattle.std.proofs.lemmas.Bool.{cases_lt}

@@ -1,16 +1,15 @@
 -- Views by numbers of names and by texts, and gaps by the bits of a number.
-use Rattle.std.proofs.Common.{◌≡◌, ◌∙◌, sym, ap, refl, ℕ, zero, suc, ◌+◌, ◌-◌, ◌<◌, ◌≤◌, List, [], ◌∷◌, ◌++◌, length, map, flat_map, filter, All, Option, Some, None, option_map, Bool, true, false, not, cond, arith}
+use Rattle.std.proofs.Common.{◌≡◌, ◌∙◌, sym, ap, refl, ℕ, zero, suc, ◌+◌, ◌-◌, ◌<◌, ◌≤◌, List, [], ◌∷◌, ◌++◌, map, flat_map, filter, Some, None, Bool, true, false, not, cond, arith}
 use Rattle.std.specs.Prelude.{◌&&◌, ◌||◌, ◌==◌}
 use Rattle.std.specs.List.{range_with_len, prefix_len}
 use Rattle.std.proofs.lemmas.List.{map-append}
 use Rattle.std.proofs.lemmas.List.Elements.{All-head, All-tail}
 use Rattle.std.proofs.lemmas.List.Folds.{length-prefix_len}
-use Rattle.spec_expressions.specs.Expression.{with_names}
 use Rattle.spec_instructions.specs.Encodeset.{Range}
 use Rattle.spec_registers.specs.Registers.{FieldOf, FieldsetOf}
 use Rattle.spec_registers.specs.Gaps.{is_gap, begins_gap, gap_from, gaps_below, gaps, is_covered}
-use Rattle.spec_registers.specs.View.{PieceOf, piece, is_not_no, is_shown, shown, field_pieces, ranges_of, pieces, view}
-use Rattle.spec_registers.specs.Renamed.{field_with_names, fieldset_with_names, piece_with_names}
+use Rattle.spec_registers.specs.View.{piece, is_not_no, is_shown, field_pieces, ranges_of, pieces}
+use Rattle.spec_registers.specs.Renamed.{field_with_names, piece_with_names}
 use Rattle.spec_registers.proofs.GapLaws.{gaps_below-next}
 use Rattle.ast_eval.specs.Choices.{Choices, configuration_of}
 use Rattle.ast_eval.specs.Worth.{AreAllHeld}

@@ -1,6 +1,5 @@
 -- The pieces that are left of a view.
-use Rattle.std.specs.Prelude.{ℕ, List, [], ◌∷◌, ◌++◌, map, flat_map, drop, Option, Some, None, option_map}
-use Rattle.spec_instructions.specs.Encodeset as bits
+use Rattle.std.specs.Prelude.{ℕ, List, ◌++◌, map, flat_map, Some, None, option_map}
 use Rattle.spec_registers.specs.Registers.{FieldOf}
 use Rattle.spec_registers.specs.Gaps.{gaps_below}
 use Rattle.spec_registers.specs.View.{PieceOf, piece, field_pieces}
@@ -8,9 +7,7 @@ use Rattle.bit_pattern.specs.declared.range.Range.{Range}
 use Rattle.register_document.specs.Views.{range_of, field_of}
 use Rattle.register_document.specs.declared.field.FieldDef.{FieldDef}
 use Rattle.register_document.specs.declared.document.RegisterDoc.{RegisterDoc}
-use Rattle.ast_eval.specs.Choices.{Choices}
 use Rattle.reg_fields.specs.Masks.{has_bit}
-use Rattle.reg_fields.specs.Shown.{shown_by}
 use Rattle.reg_fields.specs.declared.piece.Piece.{Piece}
 
 abbrev pub piece_of : Piece → PieceOf ℕ

@@ -1,8 +1,7 @@
 -- Which fields are shown, where names are numbers.
-use Rattle.std.specs.Prelude.{◌≡◌, ℕ, [], List, Bool, map, filter, All, length}
-use Rattle.spec_instructions.specs.Encodeset as bits
+use Rattle.std.specs.Prelude.{◌≡◌, ℕ, [], List, Bool, map, filter, All}
 use Rattle.spec_registers.specs.Registers.{FieldOf, FieldsetOf}
-use Rattle.spec_registers.specs.View.{PieceOf, is_not_no, pieces, ranges_of, view}
+use Rattle.spec_registers.specs.View.{PieceOf, is_not_no, pieces, view}
 use Rattle.spec_registers.specs.Renamed.{fieldset_with_names, piece_with_names}
 use Rattle.ast_eval.specs.Choices.{Choices, configuration_of}
 use Rattle.ast_eval.specs.Worth.{truth_by, own_text, AreAllHeld}

@@ -1,4 +1,4 @@
-use Rattle.std.proofs.Common.{◌∙◌, ap, sym, subst, ◌+◌, ℕ, Some, get_or, length, arith}
+use Rattle.std.proofs.Common.{◌∙◌, ap, sym, subst, ◌+◌, Some, get_or, length, arith}
 use Rattle.register_document.specs.Sound.{IsFieldset}
 use Rattle.register_document.specs.Views.{fieldset_of}
 use Rattle.register_document.specs.declared.field.Fieldset.{Fieldset}

@@ -1,7 +1,4 @@
-use Rattle.std.proofs.Common.{rules, ◌≡◌, ◌∙◌, ap, true, false, not, ◌<◌, ◌+◌, ◌-◌, arith}
-use Rattle.std.proofs.lemmas.Bool.{not-false, not_from_true}
-use Rattle.spec_registers.specs.Gaps.{is_gap}
-use Rattle.reg_fields.specs.Masks.{has_bit}
+use Rattle.std.proofs.Common.{rules, arith}
 use Rattle.reg_fields.proofs.GapLaws.{gap-is}
 use Rattle.reg_fields.proofs.gap.gap_from.Goals as goal
 use Rattle.reg_fields.proofs.gap.gap_from.Goals.{then-bits-test+else-not-has_bit, else-bits-test}

@@ -1,6 +1,4 @@
 use Rattle.std.proofs.Common.{rules, ◌==◌, ◌∙◌, sym}
-use Rattle.std.specs.List.Sorted.{ties}
-use Rattle.std.specs.Ordering.{is_lt, nat_cmp}
 use Rattle.std.proofs.lemmas.List.Sorted.{IsNonDecreasingBy-from_sort_by_key, answers_always}
 use Rattle.reg_fields.proofs.OrderLaws.{filter-same, ties-same}
 use Rattle.reg_fields.proofs.name_order.sort_by_name.Goals as goal

@@ -1,4 +1,4 @@
-use Rattle.std.proofs.Common.{◌≡◌, ◌∙◌, ◌==◌, ap, sym, map, filter}
+use Rattle.std.proofs.Common.{◌∙◌, ◌==◌, ap, sym, map}
 use Rattle.reg_fields.specs.Order.{of_name, pair_of}
 use Rattle.reg_fields.proofs.OrderLaws.{filter-map}
 use Rattle.reg_fields.proofs.name_order.NameOrder.new.Goals as goal
