@@ -5,8 +5,6 @@ ghost use Rattle.register_document.specs.Sound.{IsCondition};
 ghost use Rattle.register_document.specs.Views.{field_of};
 ghost use Rattle.spec_registers.specs.View.{is_not_no};
 ghost use Rattle.ast_eval.specs.Views.{truth_of};
-ghost use Rattle.spec_registers.specs.View.{is_not_no};
-ghost use Rattle.ast_eval.specs.Views.{truth_of};
 ghost use Rattle.reg_fields.specs.Shown.{is_shown_by};
 
 use ast_eval::{Config, Env, Truth, truth};
