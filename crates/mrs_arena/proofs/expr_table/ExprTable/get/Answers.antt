@@ -1,6 +1,5 @@
-use Rattle.std.proofs.Common.{◌∙◌, sym, length, ap, subst, ◌≡◌, ◌<◌, List, Some, arith}
+use Rattle.std.proofs.Common.{◌∙◌, sym, length, ap, ◌<◌, arith}
 use Rattle.std.specs.Prelude.{slice_get}
-use Rattle.mrs_arena.specs.declared.expr.Expr.{Expr}
 use Rattle.mrs_arena.specs.Expressions.{made, numbered}
 use Rattle.mrs_arena.specs.Table.{numbers}
 use Rattle.mrs_arena.proofs.ExprLaws.{length-put, layer-at}
