@@ -1,0 +1,2 @@
+-- The texts of parts of documents, as they are put together.
+pub mod Texts
