@@ -1,2 +1,0 @@
--- The texts of parts of documents, as they are put together.
-pub mod Texts

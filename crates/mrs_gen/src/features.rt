@@ -1,40 +1,45 @@
 //! The Features document.
-ghost use Rattle.std.specs.Prelude.{◌≡◌, ◌≤◌, ◌+◌, ◌++◌, OnOk};
-ghost use Rattle.spec_generator.specs.Json.{compact};
+ghost use Rattle.std.specs.Prelude.{◌≡◌, ◌≤◌, ◌++◌, OnOk};
+ghost use Rattle.spec_generator.specs.Json.{compact, compact_elements, later_elements, elements_of};
 ghost use Rattle.spec_generator.specs.Features as spec;
-ghost use Rattle.mrs_gen.specs.Texts.{boolean_text, apart_text, later_texts};
 
-use crate::pieces::push_decimal;
+use crate::pieces::push_numbered;
 use std::alloc::AllocError;
 
 /// Appends the parameter of a feature.
 fn push_boolean(out: &mut Vec<u8>, n: u32) -> Result<(), AllocError>
-    ensures { OnOk result (out.new.items ≡ out.old.items ++ boolean_text n) }
+    ensures { OnOk result (out.new.items ≡ out.old.items ++ compact (spec.boolean n)) }
 {
-    out.extend_from_slice(b"{\"_type\":\"Parameters.Boolean\",\"name\":\"F")?;
-    push_decimal(out, n)?;
-    out.extend_from_slice(b"\"}")?;
-    Ok(())
+    push_numbered(
+        out,
+        b"{\"_type\":\"Parameters.Boolean\",\"name\":\"F",
+        n,
+        b"\"}",
+    )
 }
 
 /// Appends the constraint that a feature and the next are not both on.
 fn push_apart(out: &mut Vec<u8>, n: u32) -> Result<(), AllocError>
     requires { n ≤ 14 }
-    ensures { OnOk result (out.new.items ≡ out.old.items ++ apart_text n) }
+    ensures { OnOk result (out.new.items ≡ out.old.items ++ compact (spec.apart n)) }
 {
-    out.extend_from_slice(
+    push_numbered(
+        out,
         b"{\"_type\":\"AST.UnaryOp\",\"op\":\"!\",\"expr\":{\"_type\":\"AST.BinaryOp\",\"op\":\"&&\",\"left\":{\"_type\":\"AST.Identifier\",\"value\":\"F",
+        n,
+        b"\"},\"right\":",
     )?;
-    push_decimal(out, n)?;
-    out.extend_from_slice(b"\"},\"right\":{\"_type\":\"AST.Identifier\",\"value\":\"F")?;
-    push_decimal(out, n + 1)?;
-    out.extend_from_slice(b"\"}}}")?;
-    Ok(())
+    push_numbered(
+        out,
+        b"{\"_type\":\"AST.Identifier\",\"value\":\"F",
+        n + 1,
+        b"\"}}}",
+    )
 }
 
-/// Appends the parameters behind the first.
+/// Appends the parameters behind the first, each behind a comma.
 fn push_later_booleans(out: &mut Vec<u8>) -> Result<(), AllocError>
-    ensures { OnOk result (out.new.items ≡ out.old.items ++ later_texts boolean_text 1 15) }
+    ensures { OnOk result (out.new.items ≡ out.old.items ++ later_elements (elements_of (spec.booleans 1 15))) }
 {
     for n in 1..16 {
         out.push(b',')?;
@@ -43,9 +48,17 @@ fn push_later_booleans(out: &mut Vec<u8>) -> Result<(), AllocError>
     Ok(())
 }
 
-/// Appends the constraints behind the first.
+/// Appends the parameters.
+fn push_booleans(out: &mut Vec<u8>) -> Result<(), AllocError>
+    ensures { OnOk result (out.new.items ≡ out.old.items ++ compact_elements (elements_of (spec.booleans 0 16))) }
+{
+    push_boolean(out, 0)?;
+    push_later_booleans(out)
+}
+
+/// Appends the constraints behind the first, each behind a comma.
 fn push_later_constraints(out: &mut Vec<u8>) -> Result<(), AllocError>
-    ensures { OnOk result (out.new.items ≡ out.old.items ++ later_texts apart_text 1 14) }
+    ensures { OnOk result (out.new.items ≡ out.old.items ++ later_elements (elements_of (spec.constraints 1 14))) }
 {
     for n in 1..15 {
         out.push(b',')?;
@@ -54,16 +67,22 @@ fn push_later_constraints(out: &mut Vec<u8>) -> Result<(), AllocError>
     Ok(())
 }
 
+/// Appends the constraints.
+fn push_constraints(out: &mut Vec<u8>) -> Result<(), AllocError>
+    ensures { OnOk result (out.new.items ≡ out.old.items ++ compact_elements (elements_of (spec.constraints 0 15))) }
+{
+    push_apart(out, 0)?;
+    push_later_constraints(out)
+}
+
 /// Appends the document.
 pub(crate) fn push_features(out: &mut Vec<u8>) -> Result<(), AllocError>
     ensures { OnOk result (out.new.items ≡ out.old.items ++ compact spec.features) }
 {
     out.extend_from_slice(b"{\"parameters\":[")?;
-    push_boolean(out, 0)?;
-    push_later_booleans(out)?;
+    push_booleans(out)?;
     out.extend_from_slice(b"],\"constraints\":[")?;
-    push_apart(out, 0)?;
-    push_later_constraints(out)?;
+    push_constraints(out)?;
     out.extend_from_slice(b"]}")?;
     Ok(())
 }

@@ -6,11 +6,18 @@ ghost use Rattle.spec_generator.specs.Values as spec;
 use itoa::Buffer;
 use std::alloc::AllocError;
 
-/// Appends a number in decimal.
-pub(crate) fn push_decimal(out: &mut Vec<u8>, n: u32) -> Result<(), AllocError>
-    ensures { OnOk result (out.new.items ≡ out.old.items ++ decimal n) }
+/// Appends a number in decimal, with a text before it and one behind it.
+pub(crate) fn push_numbered(
+    out: &mut Vec<u8>,
+    before: &[u8],
+    n: u32,
+    behind: &[u8],
+) -> Result<(), AllocError>
+    ensures { OnOk result (out.new.items ≡ out.old.items ++ (before.now ++ (decimal n ++ behind.now))) }
 {
+    out.extend_from_slice(before)?;
     out.extend_from_slice(Buffer::new().format(n).as_bytes())?;
+    out.extend_from_slice(behind)?;
     Ok(())
 }
 
@@ -23,12 +30,27 @@ fn digit(n: u32, bit: u32) -> u8
 }
 
 /// Appends the lowest `count` bits of a number as digits, the highest first.
-pub(crate) fn push_digits(out: &mut Vec<u8>, count: u32, n: u32) -> Result<(), AllocError>
+fn push_bits(out: &mut Vec<u8>, count: u32, n: u32) -> Result<(), AllocError>
     requires { count ≤ 32 }
     ensures { OnOk result (out.new.items ≡ out.old.items ++ spec.digits count n) }
 {
-    for behind in 0..count {
-        out.push(digit(n, count - 1 - behind))?;
+    for done in 0..count {
+        out.push(digit(n, count - 1 - done))?;
     }
+    Ok(())
+}
+
+/// Appends the lowest `count` bits of a number as digits, the highest first, and a text behind them.
+pub(crate) fn push_digits(
+    out: &mut Vec<u8>,
+    count: u32,
+    n: u32,
+    behind: &[u8],
+) -> Result<(), AllocError>
+    requires { count ≤ 32 }
+    ensures { OnOk result (out.new.items ≡ out.old.items ++ (spec.digits count n ++ behind.now)) }
+{
+    push_bits(out, count, n)?;
+    out.extend_from_slice(behind)?;
     Ok(())
 }

@@ -41,7 +41,7 @@ leaves i (suc count) = leaf i ∷ leaves (i + 1) count
 abbrev pub group : ℕ → ℕ → Json
 group n g =
     object (kind (codes "Instruction.InstructionGroup") ∷ (codes "name", Text (named 71 g)) ∷ encoding (six_bits 26 g ∷ [])
-    ∷ (codes "children", array (leaves (64 * g) (min 64 (n - 64 * g)))) ∷ [])
+    ∷ (codes "children", array (leaves (64 * g) (min (n - 64 * g) 64))) ∷ [])
 
 abbrev pub groups : ℕ → ℕ → ℕ → List Json
 groups n g zero = []

@@ -1,0 +1,5 @@
+use Rattle.std.proofs.Common.{append_assoc}
+use Rattle.mrs_gen.proofs.instructions.push_leaf.Goals as goal
+
+pub returns : goal.returns
+returns c = rw (c.in_ok-push.ensures.items, c.in_ok-push_condition.ensures, c.in_ok-push_digits.ensures, c.in_ok-push_numbered.ensures) (simp append_assoc)
