@@ -8,4 +8,4 @@ pub returns : goal.returns
 returns c =
     let is : c.args.i % 8 ≡ 7 = omega arith in
     subst (λ (members : List (List ℕ × Json)). OnOk c.push_numbered.result (c.push_numbered.new.out.items ≡ c.args.out.now.items ++ later_members (members_of members))) (sym (eighth c.args.i is))
-      (IfOk-equal _ _ _ _ c.push_numbered.ensures (simp append_assoc))
+    (IfOk-equal _ _ _ _ c.push_numbered.ensures (simp append_assoc))

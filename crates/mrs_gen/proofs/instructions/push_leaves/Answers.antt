@@ -8,4 +8,4 @@ pub returns : goal.returns
 returns c =
     let some : c.args.count ≡ suc (c.args.count - 1) = omega arith in
     IfOk-equal _ _ _ _ c.push_later_leaves.ensures
-      (first_of _ _ (leaf c.args.first) (leaves (c.args.first + 1) (c.args.count - 1)) (leaves c.args.first c.args.count) c.in_ok-push_leaf.ensures (ap (leaves c.args.first) some))
+    (first_of _ _ (leaf c.args.first) (leaves (c.args.first + 1) (c.args.count - 1)) (leaves c.args.first c.args.count) c.in_ok-push_leaf.ensures (ap (leaves c.args.first) some))
