@@ -1,5 +1,6 @@
 -- What parts of documents are made of.
-use Rattle.std.proofs.Common.{◌≡◌, ◌≤◌, ◌-◌, ◌/◌, ◌%◌, ℕ, suc, List, [], ◌∷◌, ◌++◌, codes, append_assoc, refl, arith}
+use Rattle.std.proofs.Common.{◌≡◌, ◌≤◌, ◌-◌, ◌/◌, ◌%◌, ℕ, suc, List, [], ◌∷◌, ◌++◌, codes, decimal, append_assoc, refl, arith}
+use Rattle.std.specs.Fmt.{digits}
 use Rattle.std.specs.Int.{div_ceil}
 use Rattle.std.proofs.lemmas.Grind.{div_ceil_times}
 use Rattle.spec_generator.specs.Json.{Json, Text, compact, compact_elements, elements_of, array, object}
@@ -28,3 +29,24 @@ eighth i is = rw is refl
 -- there is a first group
 pub some_group : (n : ℕ) → 1 ≤ n → div_ceil n 64 ≡ suc (div_ceil n 64 - 1)
 some_group n some = let enough = (div_ceil_times n 64 (omega arith)).0 in omega (arith, enough)
+
+-- the numbers of ranges and widths
+pub decimal_zero : decimal 0 ≡ codes "0"
+unfolding digits
+decimal_zero = refl
+
+pub decimal_six : decimal 6 ≡ codes "6"
+unfolding digits
+decimal_six = refl
+
+pub decimal_twenty : decimal 20 ≡ codes "20"
+unfolding digits
+decimal_twenty = refl
+
+pub decimal_twenty_six : decimal 26 ≡ codes "26"
+unfolding digits
+decimal_twenty_six = refl
+
+pub decimal_thirty_two : decimal 32 ≡ codes "32"
+unfolding digits
+decimal_thirty_two = refl
