@@ -5,9 +5,20 @@ use Rattle.spec_generator.specs.Json.{Json, compact, compact_elements, later_ele
 use Rattle.spec_generator.specs.Values.{digits}
 use Rattle.spec_generator.specs.Words.{word, words_from}
 
+-- a piece behind one that was put, and one behind two
+pub after : (out a b one whole : List ℕ) → one ≡ out ++ a → a ++ b ≡ whole → one ++ b ≡ out ++ whole
+after out a b one whole first is = rw (first, ← is) (append_assoc out a b)
+
+pub after_two : (out a b c one two whole : List ℕ) → one ≡ out ++ a → two ≡ one ++ b → a ++ (b ++ c) ≡ whole → two ++ c ≡ out ++ whole
+after_two out a b c one two whole first second is = rw (second, first, ← is) (simp append_assoc)
+
 -- three pieces
 pub three : (out a b c one two new : List ℕ) → one ≡ out ++ a → two ≡ one ++ b → new ≡ two ++ c → new ≡ out ++ (a ++ (b ++ c))
 three out a b c one two new first second third = rw (third, second, first) (simp append_assoc)
+
+-- four
+pub four : (out a b c d one two last new : List ℕ) → one ≡ out ++ a → two ≡ one ++ b → last ≡ two ++ c → new ≡ last ++ d → new ≡ out ++ (a ++ (b ++ (c ++ d)))
+four out a b c d one two last new first second third fourth = rw (fourth, third, second, first) (simp append_assoc)
 
 -- five
 pub five : (out a b c d e one two mid last new : List ℕ) → one ≡ out ++ a → two ≡ one ++ b → mid ≡ two ++ c → last ≡ mid ++ d → new ≡ last ++ e → new ≡ out ++ (a ++ (b ++ (c ++ (d ++ e))))
