@@ -1,6 +1,6 @@
 -- Worked values: the first words of seed 1, a word of seed 100 that is an access, the smallest Instructions document whole, and parts of
 -- the documents.
-use Rattle.std.specs.Prelude.{◌≡◌, ℕ, List, [], ◌∷◌, codes, refl}
+use Rattle.std.specs.Prelude.{◌≡◌, [], ◌∷◌, codes, refl}
 use Rattle.std.specs.Fmt.{digits}
 use Rattle.spec_generator.specs.Json.{compact}
 use Rattle.spec_generator.specs.Instructions.{leaf, group, instructions}

@@ -1,6 +1,6 @@
 -- The Instructions document of n leaves, from 1 to 4,096: groups of 64 leaves, the group by the six bits from 26 up, and the leaf in
 -- it by the six from 20 up. Each eighth leaf needs one of sixteen features.
-use Rattle.std.specs.Prelude.{ℕ, zero, suc, ◌+◌, ◌-◌, ◌*◌, ◌/◌, ◌%◌, nat_eq, min, List, [], ◌∷◌, ◌++◌, codes, replicate, if◌then◌else◌}
+use Rattle.std.specs.Prelude.{ℕ, zero, suc, ◌+◌, ◌-◌, ◌*◌, ◌/◌, ◌%◌, nat_eq, min, List, [], ◌∷◌, codes, replicate, if◌then◌else◌}
 use Rattle.std.specs.Int.{div_ceil}
 use Rattle.spec_generator.specs.Json.{Json, Text, Whole, object, array}
 use Rattle.spec_generator.specs.Values.{named, digits, kind, value, identifier}

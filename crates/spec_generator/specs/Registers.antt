@@ -1,5 +1,5 @@
 -- The Registers document for n leaves: as many registers, but 128 at most, each with one read accessor and no fieldset.
-use Rattle.std.specs.Prelude.{ℕ, zero, suc, ◌+◌, ◌/◌, ◌%◌, min, List, [], ◌∷◌, codes, replicate}
+use Rattle.std.specs.Prelude.{ℕ, zero, suc, ◌+◌, ◌/◌, ◌%◌, min, List, [], ◌∷◌, codes}
 use Rattle.spec_generator.specs.Json.{Json, Text, object, array}
 use Rattle.spec_generator.specs.Values.{named, digits, kind, value}
 
