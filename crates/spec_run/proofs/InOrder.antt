@@ -1,5 +1,5 @@
 -- Documents are opened in the order of work: what is opened without one of a kind fails at it only where nothing before it does.
-use Rattle.std.proofs.Common.{◌≡◌, ◌≤◌, ◌<◌, ◌==◌, ◌∙◌, ℕ, Bool, true, false, cond, List, [], arith, Option, Some, None, Result, Ok, Err, nat_lt, length, refl, sym, ap, subst}
+use Rattle.std.proofs.Common.{◌≡◌, ◌≤◌, ◌∙◌, ℕ, Bool, true, false, cond, List, [], arith, Option, Some, None, Result, Ok, Err, nat_lt, length, refl, sym, ap, subst}
 use Rattle.std.proofs.lemmas.Bool.Decides.{nat_tests}
 use Rattle.serde_json.specs.Data.{Data}
 use Rattle.spec_walk.specs.Event.{Fault}

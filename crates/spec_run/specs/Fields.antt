@@ -1,5 +1,5 @@
 -- What the fields on lines say, on each machine that is opened.
-use Rattle.std.specs.Prelude.{◌≡◌, ◌<◌, ◌^◌, ℕ, List, [], ◌∷◌, Ok}
+use Rattle.std.specs.Prelude.{◌≡◌, ◌<◌, ◌^◌, ℕ, [], ◌∷◌, Ok}
 use Rattle.spec_decode.specs.Found.{Candidate, found}
 use Rattle.spec_decode.specs.Machine.{Machine}
 use Rattle.spec_lines.specs.Way.{way_path, way_of}
