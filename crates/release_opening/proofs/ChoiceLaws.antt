@@ -10,7 +10,6 @@ use Rattle.spec_features.specs.Choice.{first_configuration}
 use Rattle.spec_features.proofs.Renamed as renamed
 use Rattle.spec_command.specs.Pins.{Pin}
 use Rattle.spec_refutation.specs.Derivation.{Step}
-use Rattle.mrs_names.specs.declared.name_id.NameId.{NameId}
 use Rattle.mrs_names.specs.Texts.{AreNames}
 use Rattle.features_reader.specs.FeatureViews.{features_of, features_in, AreFeatures}
 use Rattle.features_reader.specs.declared.features.Features.{Features}

@@ -4,7 +4,7 @@ use Rattle.std.specs.Prelude.{if◌then◌else◌}
 use Rattle.spec_io.specs.Documents.{Document as Named}
 use Rattle.spec_io.specs.States.{Shelving}
 use Rattle.spec_run.specs.Kinds.{DocumentKind}
-use Rattle.spec_run.specs.Documents.{Documents, under_names}
+use Rattle.spec_run.specs.Documents.{under_names}
 use Rattle.spec_run.specs.Opening as opening
 use Rattle.spec_run.specs.Opening.{◌then◌, by_bytes, by_value, json_in, document_read, document_limit}
 use Rattle.spec_run.specs.Opens.{DocumentsGive}

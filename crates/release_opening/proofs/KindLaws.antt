@@ -1,10 +1,10 @@
 -- The kinds of documents that an error names, and what is opened without them.
-use Rattle.std.proofs.Common.{◌≡◌, refl, sym, subst, ℕ, zero, suc, ◌<◌, List, [], ◌∷◌, ◌++◌, length, Option, Some, None, Result, Ok, Err, arith, Contains}
+use Rattle.std.proofs.Common.{◌≡◌, refl, sym, subst, ℕ, zero, suc, List, [], ◌∷◌, ◌++◌, Option, Some, None, Result, Ok, Err, arith, Contains}
 use Rattle.std.proofs.lemmas.List.Elements.{Contains-append_left, Contains-append_right}
 use Rattle.spec_walk.specs.Limits.{Counts}
 use Rattle.spec_instructions.specs.Tree.{Node}
 use Rattle.spec_command.specs.Commands.{Release, Checks}
-use Rattle.spec_run.specs.Kinds.{DocumentKind, Insns, Features, Log, named, is_kind}
+use Rattle.spec_run.specs.Kinds.{DocumentKind, Insns, Features, Log, named}
 use Rattle.spec_run.specs.Documents.{Documents, without}
 use Rattle.spec_run.specs.Opening as opening
 use Rattle.spec_run.specs.Opening.{by_bytes, set_opened}

@@ -1,4 +1,3 @@
-pub mod ConfigurationLaws
 pub mod JsonTexts
 pub mod Verdicts
 pub mod Then

@@ -1,5 +1,5 @@
 -- A set is opened, then features, and then the configuration in use is chosen.
-use Rattle.std.proofs.Common.{◌≡◌, ◌∙◌, refl, sym, ap, subst, ℕ, Bool, List, Option, Result, Ok, Err}
+use Rattle.std.proofs.Common.{◌≡◌, ◌∙◌, refl, sym, ap, subst, ℕ, List, Option, Result, Ok, Err}
 use Rattle.spec_io.specs.States.{Shelving}
 use Rattle.spec_walk.specs.Limits.{Counts}
 use Rattle.spec_expressions.specs.Scope.{Configuration}
@@ -25,7 +25,7 @@ use Rattle.release_opening.specs.declared.opening_error.OpeningError.{OpeningErr
 use Rattle.release_opening.specs.declared.opening_error.OpeningError.TheVariants as error
 use Rattle.release_opening.specs.Opens.{Opens, IsOf}
 use Rattle.release_opening.specs.Stages.{Stands, Tells, Comes, AreTheirs, AreRead, IsArenaFor}
-use Rattle.release_opening.proofs.Then.{opens, opens_alone, fails, settled, always}
+use Rattle.release_opening.proofs.Then.{opens, opens_alone, fails, always}
 use Rattle.release_opening.proofs.KindLaws.{set_spares}
 
 -- ---- what comes of something that comes to an error

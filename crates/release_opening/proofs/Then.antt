@@ -8,7 +8,6 @@ use Rattle.spec_run.specs.Kinds.{DocumentKind}
 use Rattle.spec_run.specs.Documents.{Documents, under_names, without}
 use Rattle.spec_run.specs.Opening as opening
 use Rattle.spec_run.specs.Opening.{◌then◌}
-use Rattle.spec_run.specs.Opens.{IsUnopened}
 use Rattle.release_opening.specs.declared.opening_error.OpeningError.{OpeningError}
 use Rattle.release_opening.specs.declared.opening_error.OpeningError.TheVariants as error
 use Rattle.release_opening.specs.Documents.{kind_of, fault_of}

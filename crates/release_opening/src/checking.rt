@@ -10,6 +10,7 @@ ghost use Rattle.release_opening.specs.Counted.{set_of, features_of, counted_of}
 
 use crate::counted::{Counted, FeatureCounts, SetCounts};
 use crate::counting::{count_nodes, count_parts};
+use crate::known::names_differ;
 use crate::opening_error::OpeningError;
 use crate::opening_features::open_features;
 use crate::opening_set::open_arena;
@@ -70,8 +71,8 @@ fn count_features<V: Shelf>(
         return Ok(None);
     };
     let features = open_features(alloc, shelf, name, names)?;
-    // `len` tells that names differ, so atoms are as many by their numbers as by their texts.
-    let _count = names.len();
+    // Atoms are as many by the numbers of names as by their texts.
+    names_differ(names);
     let Ok(counts) = count_parts(alloc, &features) else {
         return Err(OpeningError::NoMemory);
     };

@@ -13,6 +13,7 @@ ghost use Rattle.release_opening.specs.Pinned.{ArePins};
 ghost use Rattle.release_opening.specs.Kept.{IsChosen};
 ghost use Rattle.release_opening.specs.Stages.{Comes};
 
+use crate::known::{atoms_are_few, names_differ};
 use crate::opening_error::OpeningError;
 use ast_eval::Config;
 use feat_model::{Model, ModelFault, Outcome, Pin, configure};
@@ -33,13 +34,11 @@ pub(crate) fn choose(
     ensures chosen { (asked : List spec.Pin) → ArePins names.now pins.now asked → Comes (configured (features_in names.now features.now) asked) (result_map_both (configuration_of (text_of names.now)) (λ error. error) result) }
     ensures kept { IfOk result (λ config. IsChosen names.now (theory nat_eq (features_of features.now)) config) }
 {
-    // So many names are held, each once.
-    let _count = names.len();
+    names_differ(names);
     let Ok(model) = Model::new(alloc, features) else {
         return Err(OpeningError::NoMemory);
     };
-    // A number of 32 bits counts the atoms.
-    let _atoms = model.atoms();
+    atoms_are_few(&model);
     match configure(alloc, &model, pins) {
         Ok(Outcome::Chosen(config)) => Ok(config),
         Ok(Outcome::Refuted(cnf, log)) => Err(OpeningError::NoneFits { cnf, log }),

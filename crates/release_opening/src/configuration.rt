@@ -1,12 +1,7 @@
 //! A configuration that was opened.
-ghost use Rattle.std.specs.Prelude.{◌≡◌, ◌++◌, OnOk};
-ghost use Rattle.spec_run.specs.Configuring.{flag_text};
 
-use crate::configuration_lines::{push_atom_lines, push_parameter_lines};
 use ast_eval::Config;
-use itoa::Buffer;
 use mrs_names::Names;
-use std::alloc::AllocError;
 use std::marker::Model;
 
 /// The configuration in use, with the texts of the names of its parameters. Contracts see the configuration.
@@ -33,8 +28,7 @@ impl Model for OpenedConfiguration {
 }
 
 impl OpenedConfiguration {
-    ghost use Rattle.std.specs.Prelude.{◌≡◌, ◌++◌, OnOk};
-    ghost use Rattle.spec_run.specs.Configuring.{configuration_lines};
+    ghost use Rattle.std.specs.Prelude.{◌≡◌};
     ghost use Rattle.mrs_arena.specs.Placed.{text_of};
     ghost use Rattle.ast_eval.specs.Choices.{configuration_of};
     ghost use Rattle.release_opening.specs.Kept.{IsKept};
@@ -47,11 +41,11 @@ impl OpenedConfiguration {
         OpenedConfiguration { names, config }
     }
 
-    /// Appends the lines of the parameters and of the atoms. Where memory runs out, a part of them may be there.
-    pub fn push_lines(&self, out: &mut Vec<u8>) -> Result<(), AllocError>
-        ensures { OnOk result (out.new.items ≡ out.old.items ++ configuration_lines self.now) }
+    /// The names, and the configuration of parameters by their numbers.
+    pub fn parts(&self) -> (&Names, &Config)
+        ensures kept { IsKept result.0.now result.1.now }
+        ensures same { configuration_of (text_of result.0.now) result.1.now ≡ self.now }
     {
-        push_parameter_lines(out, &self.names, &self.config)?;
-        push_atom_lines(out, &self.config)
+        (&self.names, &self.config)
     }
 }

@@ -11,6 +11,7 @@ ghost use Rattle.release_opening.specs.Opens.{Opens, IsOf};
 ghost use Rattle.release_opening.specs.Pinned.{ArePins};
 ghost use Rattle.release_opening.specs.Stages.{Tells, AreTheirs};
 
+use crate::known::names_differ;
 use crate::opening_error::OpeningError;
 use crate::opening_features::open_features;
 use feat_model::Pin;
@@ -47,8 +48,7 @@ fn features_alone(alloc: Global, names: &Names, pins: &[Pin]) -> Result<Features
     requires { length pins.now ≤ pin_limit }
     ensures { IfOk result (λ f. (asked : List spec.Pin) → ArePins names.now pins.now asked → AreTheirs names.now (booleans_alone (pinned asked)) f) }
 {
-    // So many names are held, each once.
-    let _count = names.len();
+    names_differ(names);
     let list = names_of(alloc, pins)?;
     match Features::of_names(alloc, &list) {
         Ok(features) => Ok(features),

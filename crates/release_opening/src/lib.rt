@@ -4,13 +4,13 @@
 mod checking;
 mod choosing;
 mod configuration;
-mod configuration_lines;
 mod counted;
 mod counting;
 mod document;
 mod fetching;
 mod given;
 mod json;
+mod known;
 mod opened;
 mod opened_log;
 mod opening_configuration;

@@ -1,10 +1,10 @@
 //! `check`: counts what stands in documents.
-ghost use Rattle.std.specs.Prelude.{◌≡◌, ◌++◌, ◌∷◌, [], IfOk, OnErr, OnOk, codes, decimal, option_map};
+ghost use Rattle.std.specs.Prelude.{◌≡◌, IfOk, OnErr};
 ghost use Rattle.spec_command.specs.Commands.{AskCheck};
 ghost use Rattle.spec_run.specs.End.{IsEarly};
-ghost use Rattle.spec_run.specs.Checking.{count_text, set_line, features_line, check_outcome};
+ghost use Rattle.spec_run.specs.Checking.{check_outcome};
 ghost use Rattle.mrs_command.specs.Commands.{checks_of};
-ghost use Rattle.release_opening.specs.Counted.{set_of, features_of, counted_of};
+ghost use Rattle.release_opening.specs.Counted.{counted_of};
 ghost use Rattle.mrs_query.specs.End.{bare_end};
 ghost use Rattle.mrs_query.specs.Fulfilled.{FulfilsOnce};
 ghost use Rattle.mrs_query.specs.Once.{EndsOnce};
@@ -13,11 +13,11 @@ ghost use Rattle.mrs_query.specs.Runs.{IsPlain};
 use crate::Status;
 use crate::ended::Ended;
 use crate::output::put_out;
-use itoa::Buffer;
+use answer_lines::check_lines;
 use mrs_command::Checks;
 use mrs_io::{Shelf, Sink};
-use release_opening::{Counted, FeatureCounts, OpeningError, SetCounts, open_checks};
-use std::alloc::{AllocError, Global};
+use release_opening::{Counted, OpeningError, open_checks};
+use std::alloc::Global;
 
 /// Reads documents, and writes a line for each.
 pub(crate) fn fulfil<V: Shelf, K: Sink>(
@@ -42,68 +42,5 @@ fn show_counts<K: Sink>(alloc: Global, counted: &Counted, out: &mut K) -> Status
     ensures plain { IsPlain result }
     ensures late { ¬ IsEarly (bare_end result) }
 {
-    put_out(lines_of(alloc, counted), out)
-}
-
-/// The lines of documents.
-fn lines_of(alloc: Global, counted: &Counted) -> Result<Vec<u8>, AllocError>
-    ensures { IfOk result (λ lines. lines.items ≡ (check_outcome (counted_of counted.now)).out) }
-{
-    let mut lines = Vec::new(alloc);
-    push_counts(&mut lines, counted)?;
-    Ok(lines)
-}
-
-/// Appends the line of each document.
-fn push_counts(out: &mut Vec<u8>, counted: &Counted) -> Result<(), AllocError>
-    ensures { OnOk result (out.new.items ≡ out.old.items ++ (check_outcome (counted_of counted.now)).out) }
-{
-    push_set_line(out, &counted.set)?;
-    push_features_line(out, &counted.features)
-}
-
-/// Appends the line of a set, where one was read.
-fn push_set_line(out: &mut Vec<u8>, set: &Option<SetCounts>) -> Result<(), AllocError>
-    ensures { OnOk result (out.new.items ≡ out.old.items ++ set_line (option_map set_of set.now)) }
-{
-    let Some(counts) = set else {
-        return Ok(());
-    };
-    out.extend_from_slice(b"insns")?;
-    push_count(out, b" nodes ", counts.nodes)?;
-    push_count(out, b" leaves ", counts.leaves)?;
-    push_count(out, b" aliases ", counts.aliases)?;
-    out.push(b'\n')?;
-    Ok(())
-}
-
-/// Appends the line of features, where some were read.
-fn push_features_line(out: &mut Vec<u8>, features: &Option<FeatureCounts>) -> Result<(), AllocError>
-    ensures { OnOk result (out.new.items ≡ out.old.items ++ features_line (option_map features_of features.now)) }
-{
-    let Some(counts) = features else {
-        return Ok(());
-    };
-    out.extend_from_slice(b"features")?;
-    push_count(out, b" booleans ", counts.booleans)?;
-    push_count(out, b" others ", counts.others)?;
-    push_end(out, counts)
-}
-
-/// Appends the end of the line of features.
-fn push_end(out: &mut Vec<u8>, counts: &FeatureCounts) -> Result<(), AllocError>
-    ensures { OnOk result (out.new.items ≡ out.old.items ++ (count_text (codes "constraints") counts.now.constraints ++ (count_text (codes "atoms") counts.now.atoms ++ 10 ∷ []))) }
-{
-    push_count(out, b" constraints ", counts.constraints)?;
-    push_count(out, b" atoms ", counts.atoms)?;
-    out.push(b'\n')?;
-    Ok(())
-}
-
-/// Appends a word, between two spaces, and how many there are.
-fn push_count(out: &mut Vec<u8>, word: &[u8], count: u32) -> Result<(), AllocError>
-    ensures { OnOk result (out.new.items ≡ out.old.items ++ (word.now ++ decimal count)) }
-{
-    out.extend_from_slice(word)?;
-    out.extend_from_slice(Buffer::new().format(count).as_bytes())
+    put_out(check_lines(alloc, counted), out)
 }

@@ -1,8 +1,8 @@
 //! `config`: tells the configuration in use.
-ghost use Rattle.std.specs.Prelude.{◌≡◌, ◌≤◌, [], length, IfOk, OnErr};
+ghost use Rattle.std.specs.Prelude.{◌≡◌, ◌≤◌, length, IfOk, OnErr};
 ghost use Rattle.spec_command.specs.Commands.{AskConfig, pin_limit};
 ghost use Rattle.spec_run.specs.End.{IsEarly};
-ghost use Rattle.spec_run.specs.Configuring.{configuration_lines, config_outcome};
+ghost use Rattle.spec_run.specs.Configuring.{config_outcome};
 ghost use Rattle.mrs_query.specs.End.{bare_end};
 ghost use Rattle.mrs_query.specs.Fulfilled.{FulfilsOnce};
 ghost use Rattle.mrs_query.specs.Once.{EndsOnce};
@@ -11,10 +11,11 @@ ghost use Rattle.mrs_query.specs.Runs.{IsPlain};
 use crate::Status;
 use crate::ended::Ended;
 use crate::output::put_out;
+use answer_lines::configuration_lines;
 use mrs_command::Pins;
 use mrs_io::{Shelf, Sink};
 use release_opening::{OpenedConfiguration, OpeningError, open_configuration};
-use std::alloc::{AllocError, Global};
+use std::alloc::Global;
 
 /// Opens the configuration in use, and writes its lines.
 pub(crate) fn fulfil<V: Shelf, K: Sink>(
@@ -45,14 +46,5 @@ fn show_configuration<K: Sink>(
     ensures plain { IsPlain result }
     ensures late { ¬ IsEarly (bare_end result) }
 {
-    put_out(lines_of(alloc, configuration), out)
-}
-
-/// The lines of a configuration.
-fn lines_of(alloc: Global, configuration: &OpenedConfiguration) -> Result<Vec<u8>, AllocError>
-    ensures { IfOk result (λ lines. lines.items ≡ configuration_lines configuration.now) }
-{
-    let mut lines = Vec::new(alloc);
-    configuration.push_lines(&mut lines)?;
-    Ok(lines)
+    put_out(configuration_lines(alloc, configuration), out)
 }

@@ -1,8 +1,7 @@
 //! `leaf`: shows one leaf.
-ghost use Rattle.std.specs.Prelude.{◌≡◌, ◌<◌, [], length, IfOk, MatchResult};
+ghost use Rattle.std.specs.Prelude.{◌≡◌, MatchResult};
 ghost use Rattle.spec_command.specs.Commands.{AskLeaf};
 ghost use Rattle.spec_instructions.specs.Paths.{labelled_leaf};
-ghost use Rattle.spec_lines.specs.LeafFields.{whole_leaf};
 ghost use Rattle.spec_run.specs.End.{IsEarly};
 ghost use Rattle.spec_run.specs.Commands.{leaf_outcome};
 ghost use Rattle.mrs_command.specs.Commands.{release_of};
@@ -14,11 +13,11 @@ ghost use Rattle.mrs_query.specs.Runs.{IsPlain};
 use crate::ended::Ended;
 use crate::output::put_out;
 use crate::{QuestionFault, Status};
-use insn_tree::LeafId;
+use answer_lines::leaf_lines;
 use mrs_command::Release;
 use mrs_io::{Shelf, Sink};
 use release_opening::{Opened, OpeningError, open_set};
-use std::alloc::{AllocError, Global};
+use std::alloc::Global;
 
 /// Opens a set, and writes the lines of the leaf with that label.
 pub(crate) fn fulfil<V: Shelf, K: Sink>(
@@ -51,14 +50,4 @@ fn show_leaf<K: Sink>(alloc: Global, opened: &Opened, label: &str, out: &mut K) 
         };
     };
     put_out(leaf_lines(alloc, opened, leaf), out)
-}
-
-/// The lines of a leaf.
-fn leaf_lines(alloc: Global, opened: &Opened, leaf: LeafId) -> Result<Vec<u8>, AllocError>
-    requires { leaf.0 < length opened.now.paths }
-    ensures { IfOk result (λ lines. lines.items ≡ whole_leaf opened.now leaf.0) }
-{
-    let mut lines = Vec::new(alloc);
-    opened.push_leaf(&mut lines, leaf)?;
-    Ok(lines)
 }

@@ -21,6 +21,6 @@ returns-clause-opens g c =
     let held = c.args.names.now in
     let counts = c.in-Ok.counts in
     let parts = c.in-Ok.ensures in
-    let told = features_told c.open_features.new.names s.value.0 c.in_ok-features.features counts c.len-count.ensures.names s.stands parts.booleans parts.others parts.constraints parts.atoms in
+    let told = features_told c.open_features.new.names s.value.0 c.in_ok-features.features counts c.names_differ.ensures s.stands parts.booleans parts.others parts.constraints parts.atoms in
     let found = features_found c.in-Some.name.now held shelf after s.value (features_of counts) c.in_ok-features.ensures.same s.is told in
     subst (λ name. Opens (λ docs. features_counted held docs name) shelf after (Ok (Some (features_of counts)))) (sym (ap (option_map (λ n. n.now)) c.in-Some.is)) found

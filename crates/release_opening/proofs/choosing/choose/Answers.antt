@@ -15,7 +15,7 @@ returns-in-Ok-Chosen-clause-chosen c =
     let t = theory bytes_eq (features_in names f) in
     let found = c.in-Ok-Chosen in
     λ asked pins.
-    let told = of_names names f c.args.pins.now asked c.in-Ok.model (Ok found.field-0) c.len-count.ensures.names c.requires.held pins c.in-Ok.ensures found.ensures.named in
+    let told = of_names names f c.args.pins.now asked c.in-Ok.model (Ok found.field-0) c.names_differ.ensures c.requires.held pins c.in-Ok.ensures found.ensures.named in
     let so = subst (λ o. named.Answers names t asked (Ok o)) found.field-0-is told in
     is_chosen t asked (configuration_of (text_of names) found.config) so.0 so.1
 
@@ -23,7 +23,7 @@ pub returns-in-Ok-Chosen-clause-kept : goal.returns-in-Ok-Chosen-clause-kept
 returns-in-Ok-Chosen-clause-kept c =
     let found = c.in-Ok-Chosen in
     let so = subst (λ o. Configures c.in-Ok.model c.args.pins.now o) found.field-0-is found.ensures.outcome in
-    is_chosen_of c.args.names.now c.args.features.now c.args.pins.now c.in-Ok.model found.config c.requires.held c.in-Ok.ensures so (omega (arith, c.atoms-atoms.ensures))
+    is_chosen_of c.args.names.now c.args.features.now c.args.pins.now c.in-Ok.model found.config c.requires.held c.in-Ok.ensures so (omega (arith, c.atoms_are_few.ensures))
 
 pub returns-in-Ok-Refuted-clause-chosen : goal.returns-in-Ok-Refuted-clause-chosen
 returns-in-Ok-Refuted-clause-chosen c =
@@ -32,7 +32,7 @@ returns-in-Ok-Refuted-clause-chosen c =
     let t = theory bytes_eq (features_in names f) in
     let found = c.in-Ok-Refuted in
     λ asked pins.
-    let told = of_names names f c.args.pins.now asked c.in-Ok.model (Ok found.field-0) c.len-count.ensures.names c.requires.held pins c.in-Ok.ensures found.ensures.named in
+    let told = of_names names f c.args.pins.now asked c.in-Ok.model (Ok found.field-0) c.names_differ.ensures c.requires.held pins c.in-Ok.ensures found.ensures.named in
     let so = subst (λ o. named.Answers names t asked (Ok o)) found.field-0-is told in
     (is_refuted t asked found.cnf found.log so.0 so.1, so.1.refutes, so.1.written)
 
@@ -43,5 +43,5 @@ returns-in-Err-UnknownFeature-clause-chosen c =
     let t = theory bytes_eq (features_in names f) in
     let found = c.in-Err-UnknownFeature in
     λ asked pins.
-    let told = of_names names f c.args.pins.now asked c.in-Ok.model (Err found.field-0) c.len-count.ensures.names c.requires.held pins c.in-Ok.ensures found.ensures.named in
+    let told = of_names names f c.args.pins.now asked c.in-Ok.model (Err found.field-0) c.names_differ.ensures c.requires.held pins c.in-Ok.ensures found.ensures.named in
     is_unknown t asked found.pin (subst (λ e. named.Answers names t asked (Err e)) found.field-0-is told)

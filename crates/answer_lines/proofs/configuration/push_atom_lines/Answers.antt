@@ -1,8 +1,8 @@
 use Rattle.std.proofs.Common.{◌∙◌, refl, sym, ap, ◌++◌, ◌+◌, ◌<◌, length, codes, decimal, drop, append_assoc, append-nil, arith}
 use Rattle.std.proofs.lemmas.Option.{slice_get_within}
 use Rattle.spec_run.specs.Configuring.{flag_text, atom_lines}
-use Rattle.release_opening.proofs.ConfigurationLaws.{one_atom, no_atom}
-use Rattle.release_opening.proofs.configuration_lines.push_atom_lines.Goals as goal
+use Rattle.answer_lines.proofs.ConfigurationLaws.{one_atom, no_atom}
+use Rattle.answer_lines.proofs.configuration.push_atom_lines.Goals as goal
 
 pub loop-on-init : goal.loop-on-init
 loop-on-init c = refl

@@ -1,6 +1,6 @@
 use Rattle.std.proofs.Common.{◌≡◌, ◌++◌, ◌-◌, length}
-use Rattle.release_opening.proofs.ConfigurationLaws.{lines_from}
-use Rattle.release_opening.proofs.configuration_lines.push_parameter_lines.Given as goal
+use Rattle.answer_lines.proofs.ConfigurationLaws.{lines_from}
+use Rattle.answer_lines.proofs.configuration.push_parameter_lines.Given as goal
 
 -- with the lines of the parameters that are left, those of all are there
 abbrev pub invariant-lines : goal.invariant-lines

@@ -1,8 +1,8 @@
-use Rattle.std.proofs.Common.{◌∙◌, refl, sym, ap, ◌++◌, ◌+◌, ◌<◌, length, append_assoc, append-nil, arith}
+use Rattle.std.proofs.Common.{◌∙◌, refl, sym, ap, ◌++◌, ◌+◌, append_assoc, append-nil, arith}
 use Rattle.spec_run.specs.Configuring.{state_text}
 use Rattle.ast_eval.specs.ConfigView.{state_told}
-use Rattle.release_opening.proofs.ConfigurationLaws.{lines_from, one_line, no_line, is_held, names_within}
-use Rattle.release_opening.proofs.configuration_lines.push_parameter_lines.Goals as goal
+use Rattle.answer_lines.proofs.ConfigurationLaws.{lines_from, one_line, no_line, is_held, names_within}
+use Rattle.answer_lines.proofs.configuration.push_parameter_lines.Goals as goal
 
 pub lines-init : goal.lines-init
 lines-init c = refl

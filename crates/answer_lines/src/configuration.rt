@@ -1,15 +1,16 @@
 //! The lines of a configuration.
-ghost use Rattle.std.specs.Prelude.{◌≡◌, ◌<◌, ◌^◌, ◌++◌, OnOk, length, codes, decimal, flat_map};
+ghost use Rattle.std.specs.Prelude.{◌≡◌, ◌<◌, ◌^◌, ◌++◌, OnOk, IfOk, length, codes, decimal, flat_map};
 ghost use Rattle.mrs_arena.specs.Placed.{text_of};
 ghost use Rattle.ast_eval.specs.Choices.{configuration_of};
 ghost use Rattle.ast_eval.specs.ConfigView.{state_told};
-ghost use Rattle.spec_run.specs.Configuring.{flag_text, state_text, parameter_line, atom_lines};
+ghost use Rattle.spec_run.specs.Configuring.{flag_text, state_text, parameter_line, atom_lines, configuration_lines};
 ghost use Rattle.release_opening.specs.Kept.{IsKept};
 
 use ast_eval::{Config, State};
 use itoa::Buffer;
 use mrs_names::Names;
-use std::alloc::AllocError;
+use release_opening::OpenedConfiguration;
+use std::alloc::{AllocError, Global};
 
 /// The end of a line, which tells a state.
 fn flag_word(on: bool) -> &'static [u8]
@@ -44,11 +45,7 @@ fn push_parameter_line(out: &mut Vec<u8>, name: &str, state: State) -> Result<()
 }
 
 /// Appends the lines of the parameters, in order.
-pub(crate) fn push_parameter_lines(
-    out: &mut Vec<u8>,
-    names: &Names,
-    config: &Config,
-) -> Result<(), AllocError>
+fn push_parameter_lines(out: &mut Vec<u8>, names: &Names, config: &Config) -> Result<(), AllocError>
     requires { IsKept names.now config.now }
     ensures { OnOk result (out.new.items ≡ out.old.items ++ flat_map parameter_line (configuration_of (text_of names.now) config.now).parameters) }
 {
@@ -70,7 +67,7 @@ fn push_atom_line(out: &mut Vec<u8>, number: u32, on: bool) -> Result<(), AllocE
 }
 
 /// Appends the lines of the atoms, in order.
-pub(crate) fn push_atom_lines(out: &mut Vec<u8>, config: &Config) -> Result<(), AllocError>
+fn push_atom_lines(out: &mut Vec<u8>, config: &Config) -> Result<(), AllocError>
     requires { length config.now.atoms < 2 ^ 32 }
     ensures { OnOk result (out.new.items ≡ out.old.items ++ atom_lines 0 config.now.atoms) }
 {
@@ -80,4 +77,18 @@ pub(crate) fn push_atom_lines(out: &mut Vec<u8>, config: &Config) -> Result<(), 
         number += 1;
     }
     Ok(())
+}
+
+/// The lines of the parameters and of the atoms.
+pub fn configuration_lines(
+    alloc: Global,
+    configuration: &OpenedConfiguration,
+) -> Result<Vec<u8>, AllocError>
+    ensures { IfOk result (λ lines. lines.items ≡ configuration_lines configuration.now) }
+{
+    let (names, config) = configuration.parts();
+    let mut lines = Vec::new(alloc);
+    push_parameter_lines(&mut lines, names, config)?;
+    push_atom_lines(&mut lines, config)?;
+    Ok(lines)
 }

@@ -1,6 +1,6 @@
 use Rattle.std.proofs.Common.{◌≡◌, ◌++◌, ◌-◌, length, drop}
 use Rattle.spec_run.specs.Configuring.{atom_lines}
-use Rattle.release_opening.proofs.configuration_lines.push_atom_lines.Given as goal
+use Rattle.answer_lines.proofs.configuration.push_atom_lines.Given as goal
 
 -- with the lines of the atoms that are left, those of all are there
 abbrev pub invariant-loop-on : goal.invariant-loop-on
